@@ -1,0 +1,54 @@
+-- The exit status of a fault, and what is said of it.
+use Rattle.std.specs.Prelude.{ℕ, Bool, List, [], ◌∷◌, ◌++◌, codes, decimal, if◌then◌else◌}
+use Rattle.sam_base.specs.declared.faults.Fault.{Fault}
+use Rattle.sam_base.specs.declared.faults.Fault.TheVariants.{Usage, Missing, ReadFault, Program, Schedule, TooManyBlocks, NoSuchChannel, Tensor, Stalled, WriteFault, OutOfMemory, NotBuilt}
+use Rattle.sam_base.specs.declared.faults.Waiting.{Waiting}
+use Rattle.sam_base.specs.Kinds.{program_kind, tns_kind}
+
+-- the exit status of a fault
+abbrev pub status_of : Fault → ℕ
+status_of Usage = 2
+status_of (Missing name) = 5
+status_of (ReadFault name) = 6
+status_of (Program kind line) = 3
+status_of (Schedule line) = 3
+status_of (TooManyBlocks blocks) = 3
+status_of (NoSuchChannel channel) = 3
+status_of (Tensor name kind line) = 4
+status_of (Stalled blocks) = 8
+status_of WriteFault = 7
+status_of OutOfMemory = 9
+status_of NotBuilt = 3
+
+-- a line of text
+abbrev pub line_of : List ℕ → List ℕ
+line_of text = text ++ 10 ∷ []
+
+-- why a block waits on a channel
+abbrev pub state_of : Bool → List ℕ
+state_of full = if full then codes " full channel " else codes " empty channel "
+
+-- one waiting block
+abbrev pub waiting_of : Waiting → List ℕ
+waiting_of w = line_of (codes "sam: stalled: block " ++ decimal w.block ++ state_of w.full ++ decimal w.channel)
+
+-- the waiting blocks, a line each
+abbrev pub stalled_of : List Waiting → List ℕ
+stalled_of [] = []
+stalled_of (w ∷ ws) = waiting_of w ++ stalled_of ws
+
+-- what is said of a fault
+abbrev pub text_of : Fault → List ℕ
+text_of Usage = line_of (codes "sam: usage: sam COMMAND SUBJECT [--capacity N] [--of C=N,..] [--schedule FILE]")
+text_of (Missing name) = line_of (codes "sam: missing " ++ name)
+text_of (ReadFault name) = line_of (codes "sam: read fault " ++ name)
+text_of (Program kind line) = line_of (codes "sam: program line " ++ decimal line ++ codes ": " ++ program_kind kind)
+text_of (Schedule line) = line_of (codes "sam: schedule line " ++ decimal line)
+text_of (TooManyBlocks blocks) = line_of (codes "sam: " ++ decimal blocks ++ codes " blocks")
+text_of (NoSuchChannel channel) = line_of (codes "sam: no channel " ++ decimal channel)
+text_of (Tensor name kind line) =
+    line_of (codes "sam: " ++ name ++ codes " line " ++ decimal line ++ codes ": " ++ tns_kind kind)
+text_of (Stalled blocks) = stalled_of blocks
+text_of WriteFault = line_of (codes "sam: write fault")
+text_of OutOfMemory = line_of (codes "sam: out of memory")
+text_of NotBuilt = line_of (codes "sam: not built")

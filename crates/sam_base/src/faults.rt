@@ -1,0 +1,165 @@
+//! Why a command gives no result, and the exit status of each cause.
+
+ghost use Rattle.std.specs.Prelude.{◌≡◌};
+ghost use Rattle.sam_base.specs.Texts.{status_of};
+
+use crate::lists::{Items, Name};
+
+/// What is wrong with the text of a statement.
+#[derive(Clone, Copy, Debug, PartialEq, Eq)]
+pub enum NoteKind {
+    /// A byte begins no token.
+    BadChar,
+    /// A name was to stand here: at the start, after `(` or after `,` inside an access.
+    ExpectedName,
+    /// `,` or `)` was to stand here, after a variable.
+    ExpectedComma,
+    /// `=` was to stand here, after the left access; or `(` or `=` after its name.
+    ExpectedEquals,
+    /// `(` stands where a factor is expected.
+    Parenthesis,
+    /// The word `sum` stands where a factor is expected.
+    SumForm,
+    /// A decimal above 2^64-1 stands where a factor is expected.
+    NumberTooLarge,
+    /// Something else stands where a factor is expected.
+    ExpectedFactor,
+    /// `+`, `-`, `*` or the end was to stand here, after a factor.
+    ExpectedOperator,
+    /// `+` or `-` stands after the last term that a statement may have.
+    TooManyTerms,
+    /// `*` stands after the last factor that a term may have.
+    TooManyFactors,
+}
+
+/// What is wrong with a program file.
+#[derive(Debug, Drop)]
+pub enum ProgramKind {
+    /// The file has more bytes than a file may have.
+    FileTooLong,
+    /// A line after the `loops` line begins a second statement.
+    ManyStatements,
+    /// The line isn't of the form that its place asks for, or the text ends too early.
+    BadLine,
+    /// A dimension is out of range.
+    DimensionRange,
+    /// The name was declared by an earlier line.
+    DuplicateName(Name),
+    /// A level of the result is dense.
+    DenseResult,
+    /// The statement is refused at this place of its text, counted in bytes from 0.
+    Note {
+        kind: NoteKind,
+        place: u32,
+    },
+    /// A name isn't declared, or the one on the left isn't the result's.
+    UnknownName(Name),
+    /// The result stands on the right.
+    ResultOnRight(Name),
+    /// An access of this tensor has another number of variables than it has dimensions.
+    ArityMismatch(Name),
+    /// This variable stands twice in one access.
+    RepeatedVariable(Name),
+    /// This variable stands at two dimensions that differ.
+    DimMismatch(Name),
+    /// A term has no access.
+    NoAccess,
+    /// A term lacks this variable of the left side.
+    MissingResultVariable(Name),
+    /// The statement has more variables than it may have.
+    TooManyVariables,
+    /// The names of `loops` aren't each variable of the statement exactly once.
+    LoopsMismatch,
+    /// The variables of an access of this tensor don't stand in loop order.
+    Discordant(Name),
+    /// Too many variables of the left side come after this one, which is summed over.
+    ReducerTooDeep(Name),
+}
+
+/// What is wrong with a tensor file.
+#[derive(Clone, Copy, Debug, PartialEq, Eq)]
+pub enum TnsKind {
+    /// A line has too few or too many words.
+    FieldCount,
+    /// A word is no coordinate, or no value.
+    BadField,
+    /// A coordinate is 0 or above its dimension.
+    CoordinateRange,
+    /// A value has a fraction digit other than 0.
+    Fraction,
+    /// A value is below -2^63 or above 2^64-1.
+    ValueRange,
+    /// There are more entries than a file may have.
+    TooManyEntries,
+    /// The file has more bytes than a file may have.
+    FileTooLong,
+    /// Too many prefixes of one length are stored.
+    TooManyPositions,
+}
+
+/// An unfinished block of a graph that can't move, with the channel of its next move: it is full where the block would
+/// put a token, and else empty.
+#[derive(Clone, Copy, Debug, PartialEq, Eq)]
+pub struct Waiting {
+    pub block: u32,
+    pub channel: u32,
+    pub full: bool,
+}
+
+/// Why a command gives no result. Names are names of files; lines count from 1, and 0 stands for no line.
+#[derive(Debug, Drop)]
+pub enum Fault {
+    /// The words are no command.
+    Usage,
+    /// There is no file of this name.
+    Missing(Name),
+    /// This file could not be read.
+    ReadFault(Name),
+    /// The program file is refused.
+    Program {
+        kind: ProgramKind,
+        line: u32,
+    },
+    /// The schedule file is refused.
+    Schedule {
+        line: u32,
+    },
+    /// The graph has this many blocks, too many for a thread each.
+    TooManyBlocks(u32),
+    /// The graph lacks this channel.
+    NoSuchChannel(u32),
+    /// A tensor file is refused.
+    Tensor {
+        name: Name,
+        kind: TnsKind,
+        line: u32,
+    },
+    /// The graph stands still, and these blocks aren't finished.
+    Stalled(Items<Waiting>),
+    /// Standard output could not be written.
+    WriteFault,
+    /// There is no memory.
+    OutOfMemory,
+    /// The input is right and of a form that isn't served yet.
+    NotBuilt,
+}
+
+/// The exit status of a fault.
+pub fn status(fault: &Fault) -> u8
+    ensures { result ≡ status_of fault.now }
+{
+    match fault {
+        Fault::Usage => 2,
+        Fault::Program { .. } => 3,
+        Fault::Schedule { .. } => 3,
+        Fault::TooManyBlocks(_) => 3,
+        Fault::NoSuchChannel(_) => 3,
+        Fault::NotBuilt => 3,
+        Fault::Tensor { .. } => 4,
+        Fault::Missing(_) => 5,
+        Fault::ReadFault(_) => 6,
+        Fault::WriteFault => 7,
+        Fault::Stalled(_) => 8,
+        Fault::OutOfMemory => 9,
+    }
+}

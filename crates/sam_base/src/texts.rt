@@ -1,0 +1,199 @@
+//! The text of a fault, as it is written on standard error.
+
+ghost use Rattle.std.specs.Prelude.{◌≡◌, ◌++◌, codes, decimal, IfOk, OnOk, OnErr};
+ghost use Rattle.sam_base.specs.Kinds.{note_kind, program_kind, tns_kind};
+ghost use Rattle.sam_base.specs.Texts.{line_of, stalled_of, state_of, text_of, waiting_of};
+
+use crate::faults::{Fault, NoteKind, ProgramKind, TnsKind, Waiting};
+use crate::lists::Name;
+use itoa::Buffer;
+use std::alloc::{AllocError, Global};
+
+fn note_text(kind: NoteKind) -> &'static str
+    ensures { result.now ≡ note_kind kind }
+{
+    match kind {
+        NoteKind::BadChar => "BadChar",
+        NoteKind::ExpectedName => "ExpectedName",
+        NoteKind::ExpectedComma => "ExpectedComma",
+        NoteKind::ExpectedEquals => "ExpectedEquals",
+        NoteKind::Parenthesis => "Parenthesis",
+        NoteKind::SumForm => "SumForm",
+        NoteKind::NumberTooLarge => "NumberTooLarge",
+        NoteKind::ExpectedFactor => "ExpectedFactor",
+        NoteKind::ExpectedOperator => "ExpectedOperator",
+        NoteKind::TooManyTerms => "TooManyTerms",
+        NoteKind::TooManyFactors => "TooManyFactors",
+    }
+}
+
+fn tns_text(kind: TnsKind) -> &'static str
+    ensures { result.now ≡ tns_kind kind }
+{
+    match kind {
+        TnsKind::FieldCount => "FieldCount",
+        TnsKind::BadField => "BadField",
+        TnsKind::CoordinateRange => "CoordinateRange",
+        TnsKind::Fraction => "Fraction",
+        TnsKind::ValueRange => "ValueRange",
+        TnsKind::TooManyEntries => "TooManyEntries",
+        TnsKind::FileTooLong => "FileTooLong",
+        TnsKind::TooManyPositions => "TooManyPositions",
+    }
+}
+
+/// Appends a text, and answers only want of memory.
+fn word(text: &mut Name, word: &str) -> Result<(), AllocError>
+    ensures { OnOk result (text.new ≡ text.old ++ word.now) }
+{
+    text.append(word.as_bytes())
+}
+
+fn number(text: &mut Name, n: u32) -> Result<(), AllocError>
+    ensures { OnOk result (text.new ≡ text.old ++ decimal n) }
+{
+    let mut buffer = Buffer::new();
+    text.append(buffer.format(n).as_bytes())
+}
+
+fn named_kind(text: &mut Name, kind: &str, name: &Name) -> Result<(), AllocError>
+    ensures { OnOk result (text.new ≡ text.old ++ (kind.now ++ name.now)) }
+{
+    word(text, kind)?;
+    text.append(name.as_bytes())
+}
+
+fn note(text: &mut Name, kind: NoteKind, place: u32) -> Result<(), AllocError>
+    ensures { OnOk result (text.new ≡ text.old ++ (note_kind kind ++ codes " " ++ decimal place)) }
+{
+    word(text, note_text(kind))?;
+    word(text, " ")?;
+    number(text, place)
+}
+
+fn program_text(text: &mut Name, kind: &ProgramKind) -> Result<(), AllocError>
+    ensures { OnOk result (text.new ≡ text.old ++ program_kind kind.now) }
+{
+    match kind {
+        ProgramKind::FileTooLong => word(text, "FileTooLong"),
+        ProgramKind::ManyStatements => word(text, "ManyStatements"),
+        ProgramKind::BadLine => word(text, "BadLine"),
+        ProgramKind::DimensionRange => word(text, "DimensionRange"),
+        ProgramKind::DuplicateName(name) => named_kind(text, "DuplicateName ", name),
+        ProgramKind::DenseResult => word(text, "DenseResult"),
+        ProgramKind::Note { kind, place } => note(text, *kind, *place),
+        ProgramKind::UnknownName(name) => named_kind(text, "UnknownName ", name),
+        ProgramKind::ResultOnRight(name) => named_kind(text, "ResultOnRight ", name),
+        ProgramKind::ArityMismatch(name) => named_kind(text, "ArityMismatch ", name),
+        ProgramKind::RepeatedVariable(name) => named_kind(text, "RepeatedVariable ", name),
+        ProgramKind::DimMismatch(name) => named_kind(text, "DimMismatch ", name),
+        ProgramKind::NoAccess => word(text, "NoAccess"),
+        ProgramKind::MissingResultVariable(name) => named_kind(text, "MissingResultVariable ", name),
+        ProgramKind::TooManyVariables => word(text, "TooManyVariables"),
+        ProgramKind::LoopsMismatch => word(text, "LoopsMismatch"),
+        ProgramKind::Discordant(name) => named_kind(text, "Discordant ", name),
+        ProgramKind::ReducerTooDeep(name) => named_kind(text, "ReducerTooDeep ", name),
+    }
+}
+
+/// A line of a head and a name.
+fn name_line(alloc: Global, head: &str, name: &Name) -> Result<Name, AllocError>
+    ensures { IfOk result (λ text. text ≡ line_of (head.now ++ name.now)) }
+{
+    let mut text = Name::from_slice(alloc, head.as_bytes())?;
+    text.append(name.as_bytes())?;
+    text.push(b'\n')?;
+    Ok(text)
+}
+
+/// A line of a head, a number and a tail.
+fn number_line(alloc: Global, head: &str, n: u32, tail: &str) -> Result<Name, AllocError>
+    ensures { IfOk result (λ text. text ≡ line_of (head.now ++ decimal n ++ tail.now)) }
+{
+    let mut text = Name::from_slice(alloc, head.as_bytes())?;
+    number(&mut text, n)?;
+    word(&mut text, tail)?;
+    text.push(b'\n')?;
+    Ok(text)
+}
+
+fn program_line(alloc: Global, kind: &ProgramKind, line: u32) -> Result<Name, AllocError>
+    ensures {
+        IfOk result
+            (λ text. text ≡ line_of (codes "sam: program line " ++ decimal line ++ codes ": " ++ program_kind kind.now))
+    }
+{
+    let mut text = Name::from_slice(alloc, b"sam: program line ")?;
+    number(&mut text, line)?;
+    word(&mut text, ": ")?;
+    program_text(&mut text, kind)?;
+    text.push(b'\n')?;
+    Ok(text)
+}
+
+fn tensor_line(alloc: Global, name: &Name, kind: TnsKind, line: u32) -> Result<Name, AllocError>
+    ensures {
+        IfOk result
+            (λ text. text ≡ line_of (codes "sam: " ++ name.now ++ codes " line " ++ decimal line ++ codes ": " ++ tns_kind kind))
+    }
+{
+    let mut text = Name::from_slice(alloc, b"sam: ")?;
+    text.append(name.as_bytes())?;
+    word(&mut text, " line ")?;
+    number(&mut text, line)?;
+    word(&mut text, ": ")?;
+    word(&mut text, tns_text(kind))?;
+    text.push(b'\n')?;
+    Ok(text)
+}
+
+/// Why a block waits on a channel.
+fn state_text(full: bool) -> &'static str
+    ensures { result.now ≡ state_of full }
+{
+    if full { " full channel " } else { " empty channel " }
+}
+
+/// Appends the line of one waiting block.
+fn waiting_line(text: &mut Name, waiting: Waiting) -> Result<(), AllocError>
+    ensures { OnOk result (text.new ≡ text.old ++ waiting_of waiting) }
+{
+    word(text, "sam: stalled: block ")?;
+    number(text, waiting.block)?;
+    word(text, state_text(waiting.full))?;
+    number(text, waiting.channel)?;
+    text.push(b'\n')
+}
+
+fn stalled_lines(alloc: Global, blocks: &[Waiting]) -> Result<Name, AllocError>
+    ensures { IfOk result (λ text. text ≡ stalled_of blocks.now) }
+{
+    let mut text = Name::new(alloc);
+    for waiting in blocks {
+        waiting_line(&mut text, *waiting)?;
+    }
+    Ok(text)
+}
+
+/// The text of a fault: one line, and for a stall one line for each waiting block, each ended by a newline.
+pub fn fault_text(alloc: Global, fault: &Fault) -> Result<Name, AllocError>
+    ensures { IfOk result (λ text. text ≡ text_of fault.now) }
+{
+    match fault {
+        Fault::Usage => Name::from_slice(
+            alloc,
+            b"sam: usage: sam COMMAND SUBJECT [--capacity N] [--of C=N,..] [--schedule FILE]\n",
+        ),
+        Fault::Missing(name) => name_line(alloc, "sam: missing ", name),
+        Fault::ReadFault(name) => name_line(alloc, "sam: read fault ", name),
+        Fault::Program { kind, line } => program_line(alloc, kind, *line),
+        Fault::Schedule { line } => number_line(alloc, "sam: schedule line ", *line, ""),
+        Fault::TooManyBlocks(blocks) => number_line(alloc, "sam: ", *blocks, " blocks"),
+        Fault::NoSuchChannel(channel) => number_line(alloc, "sam: no channel ", *channel, ""),
+        Fault::Tensor { name, kind, line } => tensor_line(alloc, name, *kind, *line),
+        Fault::Stalled(blocks) => stalled_lines(alloc, blocks.as_slice()),
+        Fault::WriteFault => Name::from_slice(alloc, b"sam: write fault\n"),
+        Fault::OutOfMemory => Name::from_slice(alloc, b"sam: out of memory\n"),
+        Fault::NotBuilt => Name::from_slice(alloc, b"sam: not built\n"),
+    }
+}
