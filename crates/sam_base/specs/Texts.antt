@@ -30,7 +30,7 @@ state_of full = if full then codes " full channel " else codes " empty channel "
 
 -- one waiting block
 abbrev pub waiting_of : Waiting → List ℕ
-waiting_of w = line_of (codes "sam: stalled: block " ++ decimal w.block ++ state_of w.full ++ decimal w.channel)
+waiting_of w = codes "sam: stalled: block " ++ decimal w.block ++ line_of (state_of w.full ++ decimal w.channel)
 
 -- the waiting blocks, a line each
 abbrev pub stalled_of : List Waiting → List ℕ

@@ -48,10 +48,7 @@ pub enum ProgramKind {
     /// A level of the result is dense.
     DenseResult,
     /// The statement is refused at this place of its text, counted in bytes from 0.
-    Note {
-        kind: NoteKind,
-        place: u32,
-    },
+    Note { kind: NoteKind, place: u32 },
     /// A name isn't declared, or the one on the left isn't the result's.
     UnknownName(Name),
     /// The result stands on the right.

@@ -56,6 +56,13 @@ fn number(text: &mut Name, n: u32) -> Result<(), AllocError>
     text.append(buffer.format(n).as_bytes())
 }
 
+fn numbered(text: &mut Name, head: &str, n: u32) -> Result<(), AllocError>
+    ensures { OnOk result (text.new ≡ text.old ++ (head.now ++ decimal n)) }
+{
+    word(text, head)?;
+    number(text, n)
+}
+
 fn named_kind(text: &mut Name, kind: &str, name: &Name) -> Result<(), AllocError>
     ensures { OnOk result (text.new ≡ text.old ++ (kind.now ++ name.now)) }
 {
@@ -88,7 +95,11 @@ fn program_text(text: &mut Name, kind: &ProgramKind) -> Result<(), AllocError>
         ProgramKind::RepeatedVariable(name) => named_kind(text, "RepeatedVariable ", name),
         ProgramKind::DimMismatch(name) => named_kind(text, "DimMismatch ", name),
         ProgramKind::NoAccess => word(text, "NoAccess"),
-        ProgramKind::MissingResultVariable(name) => named_kind(text, "MissingResultVariable ", name),
+        ProgramKind::MissingResultVariable(name) => named_kind(
+            text,
+            "MissingResultVariable ",
+            name,
+        ),
         ProgramKind::TooManyVariables => word(text, "TooManyVariables"),
         ProgramKind::LoopsMismatch => word(text, "LoopsMismatch"),
         ProgramKind::Discordant(name) => named_kind(text, "Discordant ", name),
@@ -118,10 +129,8 @@ fn number_line(alloc: Global, head: &str, n: u32, tail: &str) -> Result<Name, Al
 }
 
 fn program_line(alloc: Global, kind: &ProgramKind, line: u32) -> Result<Name, AllocError>
-    ensures {
-        IfOk result
-            (λ text. text ≡ line_of (codes "sam: program line " ++ decimal line ++ codes ": " ++ program_kind kind.now))
-    }
+    ensures { IfOk result
+        (λ text. text ≡ line_of (codes "sam: program line " ++ decimal line ++ codes ": " ++ program_kind kind.now)) }
 {
     let mut text = Name::from_slice(alloc, b"sam: program line ")?;
     number(&mut text, line)?;
@@ -132,10 +141,8 @@ fn program_line(alloc: Global, kind: &ProgramKind, line: u32) -> Result<Name, Al
 }
 
 fn tensor_line(alloc: Global, name: &Name, kind: TnsKind, line: u32) -> Result<Name, AllocError>
-    ensures {
-        IfOk result
-            (λ text. text ≡ line_of (codes "sam: " ++ name.now ++ codes " line " ++ decimal line ++ codes ": " ++ tns_kind kind))
-    }
+    ensures { IfOk result
+        (λ text. text ≡ line_of (codes "sam: " ++ name.now ++ codes " line " ++ decimal line ++ codes ": " ++ tns_kind kind)) }
 {
     let mut text = Name::from_slice(alloc, b"sam: ")?;
     text.append(name.as_bytes())?;
@@ -151,18 +158,21 @@ fn tensor_line(alloc: Global, name: &Name, kind: TnsKind, line: u32) -> Result<N
 fn state_text(full: bool) -> &'static str
     ensures { result.now ≡ state_of full }
 {
-    if full { " full channel " } else { " empty channel " }
+    if full {
+        " full channel "
+    } else {
+        " empty channel "
+    }
 }
 
 /// Appends the line of one waiting block.
 fn waiting_line(text: &mut Name, waiting: Waiting) -> Result<(), AllocError>
     ensures { OnOk result (text.new ≡ text.old ++ waiting_of waiting) }
 {
-    word(text, "sam: stalled: block ")?;
-    number(text, waiting.block)?;
-    word(text, state_text(waiting.full))?;
-    number(text, waiting.channel)?;
-    text.push(b'\n')
+    numbered(text, "sam: stalled: block ", waiting.block)?;
+    numbered(text, state_text(waiting.full), waiting.channel)?;
+    text.push(b'\n')?;
+    Ok(())
 }
 
 fn stalled_lines(alloc: Global, blocks: &[Waiting]) -> Result<Name, AllocError>
