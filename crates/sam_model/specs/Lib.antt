@@ -1,0 +1,4 @@
+pub mod Lists
+pub mod Tensors
+pub mod Denote
+pub mod ResultText
