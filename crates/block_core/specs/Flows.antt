@@ -1,0 +1,39 @@
+-- The moves take whole streams and put whole streams, token by token.
+use Rattle.std.specs.Prelude.{◌≡◌, ℕ, zero, suc, ◌+◌, List, [], ◌∷◌, length}
+use Rattle.stream_tokens.specs.declared.Token.{Token}
+use Rattle.block_core.specs.Move.{Move, Taking, Putting, takes, puts}
+use Rattle.block_core.specs.Ports.{Streams, port}
+use Rattle.block_core.specs.Kind.{Kind, Fits, outputs, moves}
+
+-- no token is left
+abbrev pub NoTokens : Streams → Type 0
+NoTokens [] = Unit {0}
+NoTokens ([] ∷ ss) = NoTokens ss
+NoTokens ((t ∷ s) ∷ ss) = ⊥
+
+-- t is the first token of the stream at port p, and the streams without it are as `after` says
+abbrev pub Front : ℕ → Token → Streams → (Streams → Type 0) → Type 0
+Front p t [] after = ⊥
+Front zero t ([] ∷ ss) after = ⊥
+Front zero t ((u ∷ s) ∷ ss) after = (u ≡ t) × after (s ∷ ss)
+Front (suc p) t (s ∷ ss) after = Front p t ss (λ r. after (s ∷ r))
+
+-- each move takes the first token that is left of an input, or puts the first that is left of an output, until none is
+abbrev pub Flows : List Move → Streams → Streams → Type 0
+Flows [] ins outs = NoTokens ins × NoTokens outs
+Flows (Taking p t ∷ ms) ins outs = Front p t ins (λ r. Flows ms r outs)
+Flows (Putting p t ∷ ms) ins outs = Front p t outs (λ r. Flows ms ins r)
+
+-- the tokens of all streams together
+abbrev pub total : Streams → ℕ
+total [] = 0
+total (s ∷ ss) = length s + total ss
+
+-- port by port, and in all
+pub record Passes (ins : Streams) (ms : List Move) (outs : Streams) : Type 0 where
+  pub taken : (p : ℕ) → takes p ms ≡ port p ins
+  pub put : (p : ℕ) → puts p ms ≡ port p outs
+  pub number : length ms ≡ total ins + total outs
+
+abbrev pub AllPass : Type 0
+AllPass = (kind : Kind) (ins : Streams) → Fits kind ins → Passes ins (moves kind ins) (outputs kind ins)

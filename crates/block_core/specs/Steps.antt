@@ -1,0 +1,12 @@
+-- When a block may take a token or put one: somewhere in the moves of its kind it stands before just that.
+use Rattle.std.specs.Prelude.{◌≡◌, ℕ, Some, slice_get}
+use Rattle.stream_tokens.specs.declared.Token.{Token}
+use Rattle.block_core.specs.Move.{Taking, Putting}
+use Rattle.block_core.specs.Ports.{Streams}
+use Rattle.block_core.specs.Kind.{Kind, moves}
+
+abbrev pub MayTake : (Streams → ℕ → Type 0) → Kind → ℕ → Token → Type 0
+MayTake stands kind port t = ∥ ((s : Streams) × (n : ℕ) × stands s n × (slice_get (moves kind s) n ≡ Some (Taking port t))) ∥₁
+
+abbrev pub MayPut : (Streams → ℕ → Type 0) → Kind → Type 0
+MayPut stands kind = ∥ ((s : Streams) × (n : ℕ) × (port : ℕ) × (t : Token) × stands s n × (slice_get (moves kind s) n ≡ Some (Putting port t))) ∥₁

@@ -1,0 +1,3 @@
+pub mod Nest
+pub mod Flat
+pub mod Shapes
