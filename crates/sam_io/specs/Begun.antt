@@ -1,0 +1,8 @@
+-- The place of a begun file of the system.
+use Rattle.std.specs.Prelude.{ℕ, Option, Some, None}
+use Rattle.sam_io.specs.Outside.{Place}
+use Rattle.sam_io.specs.declared.system.Begun.{Begun}
+
+abbrev pub place_of : {F : Type 0} → Option (Begun F) → Place
+place_of None = None
+place_of (Some begun) = Some (begun.name.value, begun.given)

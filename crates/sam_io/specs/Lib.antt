@@ -1,0 +1,5 @@
+pub mod Begun
+pub mod Found
+pub mod Held
+pub mod Opening
+pub mod Outside
