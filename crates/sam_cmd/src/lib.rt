@@ -1,0 +1,4 @@
+//! The commands: their words, their answers and what they write.
+#![tactic(auto)]
+
+mod lists;
