@@ -1,1 +1,2 @@
+pub mod OneFiber
 pub mod Reading
