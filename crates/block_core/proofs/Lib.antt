@@ -1,2 +1,14 @@
 pub mod Standing
 pub mod Unique
+mod Passing
+mod Rows
+mod After
+mod PlainFlows
+mod RepeatFlows
+mod SpaceFlows
+mod BeneathFlows
+mod InOrder
+mod Either
+mod MergeFlows
+mod FillFlows
+pub mod All

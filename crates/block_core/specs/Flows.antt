@@ -1,9 +1,9 @@
 -- The moves take whole streams and put whole streams, token by token.
-use Rattle.std.specs.Prelude.{◌≡◌, ℕ, zero, suc, ◌+◌, List, [], ◌∷◌, length}
+use Rattle.std.specs.Prelude.{◌≡◌, ◌≤◌, ◌↔◌, ℕ, zero, suc, ◌+◌, List, [], ◌∷◌, length, take, drop}
 use Rattle.stream_tokens.specs.declared.Token.{Token}
-use Rattle.block_core.specs.Move.{Move, Taking, Putting, takes, puts}
+use Rattle.block_core.specs.declared.Wish.TheVariants.{Finished}
+use Rattle.block_core.specs.Move.{Move, Taking, Putting, wish_of, takes, puts}
 use Rattle.block_core.specs.Ports.{Streams, port}
-use Rattle.block_core.specs.Kind.{Kind, Fits, outputs, moves}
 
 -- no token is left
 abbrev pub NoTokens : Streams → Type 0
@@ -29,11 +29,14 @@ abbrev pub total : Streams → ℕ
 total [] = 0
 total (s ∷ ss) = length s + total ss
 
--- port by port, and in all
-pub record Passes (ins : Streams) (ms : List Move) (outs : Streams) : Type 0 where
+-- these moves have taken all of the inputs and put all of the outputs
+pub record Through (ins : Streams) (ms : List Move) (outs : Streams) : Type 0 where
   pub taken : (p : ℕ) → takes p ms ≡ port p ins
   pub put : (p : ℕ) → puts p ms ≡ port p outs
-  pub number : length ms ≡ total ins + total outs
 
-abbrev pub AllPass : Type 0
-AllPass = (kind : Kind) (ins : Streams) → Fits kind ins → Passes ins (moves kind ins) (outputs kind ins)
+-- Port by port the moves take the inputs and put the outputs, they are as many as there are tokens in all, and no fewer
+-- of them come to that end.
+pub record Passes (ins : Streams) (ms : List Move) (outs : Streams) : Type 0 where
+  pub through : Through ins ms outs
+  pub number : length ms ≡ total ins + total outs
+  pub ends : (n : ℕ) → n ≤ length ms → (wish_of (drop n ms) ≡ Finished) ↔ Through ins (take n ms) outs

@@ -6,7 +6,8 @@ ghost use Rattle.block_core.specs.Move.{Taking, Putting, wish_of};
 ghost use Rattle.block_core.specs.Agree.{AgreeFor};
 ghost use Rattle.block_core.specs.Steps.{MayTake, MayPut};
 ghost use Rattle.block_core.specs.Ports.{Streams};
-ghost use Rattle.block_core.specs.Kind.{Kind, Fits, moves, ins_of, outs_of};
+ghost use Rattle.block_core.specs.Kind.{Kind, Fits, outputs, moves, ins_of, outs_of};
+ghost use Rattle.block_core.specs.Flows.{Passes};
 
 use std::alloc::AllocError;
 use stream_tokens::Token;
@@ -73,3 +74,9 @@ pub trait BlockStep {
     /// Wherever two whole inputs agree on the tokens taken so far, the wish is the same.
     ghost agrees: { (b : Self) (s r : Streams) (n : ℕ) → stands b s 0 → stands b r 0 → AgreeFor n (moves (kind b) s) (moves (kind b) r) → wish_of (drop n (moves (kind b) s)) ≡ wish_of (drop n (moves (kind b) r)) };
 }
+
+/// The moves of each kind take exactly its whole inputs and put exactly its whole outputs, in order port by port. They
+/// are as many as all those streams have tokens, and the wish is Finished exactly where all streams are through.
+pub fn moves_pass()
+    ensures { (kind : Kind) (ins : Streams) → Fits kind ins → Passes ins (moves kind ins) (outputs kind ins) }
+{}
