@@ -1,0 +1,3 @@
+mod RepeatRuns
+mod CastRuns
+mod DrainRuns

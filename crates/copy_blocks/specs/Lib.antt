@@ -1,0 +1,3 @@
+pub mod RepeatSteps
+pub mod CastSteps
+pub mod DrainSteps
