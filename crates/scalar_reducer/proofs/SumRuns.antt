@@ -1,9 +1,9 @@
 -- A new scalar reducer makes the moves of its kind.
 use Rattle.std.proofs.Common.{ℕ, zero, suc, List, [], ◌∷◌, Some, None, refl, sym, subst}
 use Rattle.stream_tokens.specs.declared.Token.TheVariants.{Stop}
-use Rattle.stream_tokens.specs.Nest.{Leaf, leaf, Fiber}
-use Rattle.block_core.specs.Move.{Move, Taking, Putting}
-use Rattle.block_core.specs.SumScalar.{take_values, sumscalar_close, sumscalar_fiber, sumscalar_moves, fiber_sum}
+use Rattle.stream_tokens.specs.Nest.{Leaf, Fiber}
+use Rattle.block_core.specs.Move.{Move, Taking}
+use Rattle.block_core.specs.SumScalar.{take_values, sumscalar_fiber, sumscalar_moves, fiber_sum}
 use Rattle.block_core.specs.Arithmetic.{combine, Plus}
 use Rattle.block_core.specs.Ports.{Streams}
 use Rattle.block_core.specs.Kind.{SumScalarKind, Fits, reading}

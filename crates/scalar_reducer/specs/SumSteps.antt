@@ -1,5 +1,5 @@
 -- The states of a scalar reducer: what each wants, and where a taken or a put token leads.
-use Rattle.std.specs.Prelude.{ℕ, zero, suc, Option, Some, None}
+use Rattle.std.specs.Prelude.{ℕ, zero, suc, Some, None}
 use Rattle.stream_tokens.specs.declared.Token.{Token}
 use Rattle.stream_tokens.specs.declared.Token.TheVariants.{Item, Empty, Stop, Done}
 use Rattle.stream_tokens.specs.Nest.{Leaf, leaf}

@@ -164,3 +164,131 @@ impl BlockStep for ScalarReducer {
 
     ghost agrees = { λ b s r n h k a. same_wish _ _ n (moves SumScalarKind s) (moves SumScalarKind r) h.rest k.rest a };
 }
+
+#[cfg(test)]
+mod tests {
+    use super::*;
+    use std::alloc::Global;
+    use std::test::Fail;
+    use stream_tokens::Token::{Done, Empty, Item, Stop};
+
+    /// Feeds whole inputs to the states of a reducer, and gives the tokens that they put.
+    fn sums_of(alloc: Global, outer: &[Token], values: &[Token]) -> Result<Vec<Token>, Fail> {
+        let mut sums = Vec::new(alloc);
+        let mut outer = outer.iter();
+        let mut values = values.iter();
+        let mut state = SumState::Outer;
+        for _ in 0..100 {
+            match state.wants() {
+                Wish::Take(0) => state = state.took(*outer.next().ok_or("a take past the end")?),
+                Wish::Take(_) => state = state.took(*values.next().ok_or("a take past the end")?),
+                Wish::Put(_, t) => {
+                    sums.push(t)?;
+                    state = state.put();
+                }
+                Wish::Finished => return Ok(sums),
+            }
+        }
+        Err("not finished")?
+    }
+
+    #[test]
+    fn sums_are_those_of_the_table(rt: HostRuntime) -> Result<(), Fail> {
+        let rows: [(&[Token], &[Token], &[Token]); 6] = [
+            // One sum over nothing, no sum, and a sum over nothing under the root.
+            (
+                &[Item(0), Stop(0), Done],
+                &[Stop(1), Done],
+                &[Empty, Stop(0), Done],
+            ),
+            (&[Stop(0), Done], &[Stop(1), Done], &[Stop(0), Done]),
+            (&[Item(0), Done], &[Stop(0), Done], &[Empty, Done]),
+            // A sum that wraps to 0.
+            (
+                &[Item(0), Done],
+                &[Item(5), Item(u64::MAX - 4), Stop(0), Done],
+                &[Item(0), Done],
+            ),
+            // Absent values among others, a fiber of absent values and an empty one.
+            (
+                &[Item(3), Item(4), Item(9), Stop(0), Done],
+                &[
+                    Empty,
+                    Item(2),
+                    Empty,
+                    Item(7),
+                    Stop(0),
+                    Empty,
+                    Empty,
+                    Stop(0),
+                    Stop(1),
+                    Done,
+                ],
+                &[Item(9), Empty, Empty, Stop(0), Done],
+            ),
+            // Nested stops, with an empty enclosing fiber between two others.
+            (
+                &[
+                    Item(1),
+                    Stop(0),
+                    Stop(0),
+                    Item(0),
+                    Item(2),
+                    Stop(1),
+                    Item(5),
+                    Stop(2),
+                    Done,
+                ],
+                &[
+                    Item(1),
+                    Stop(1),
+                    Stop(1),
+                    Item(2),
+                    Item(3),
+                    Stop(0),
+                    Item(0),
+                    Stop(2),
+                    Item(8),
+                    Stop(3),
+                    Done,
+                ],
+                &[
+                    Item(1),
+                    Stop(0),
+                    Stop(0),
+                    Item(5),
+                    Item(0),
+                    Stop(1),
+                    Item(8),
+                    Stop(2),
+                    Done,
+                ],
+            ),
+        ];
+        for (n, (outer, values, sums)) in rows.iter().enumerate() {
+            assert_eq!(rt;
+                sums_of(rt.alloc(), outer, values)?.as_slice(),
+                *sums,
+                "row {n}"
+            );
+        }
+        Ok(())
+    }
+
+    fn needs_send<T: Send>(_block: &T) {}
+
+    #[test]
+    fn plays_one_sum_over_nothing(rt: HostRuntime) -> Result<(), Fail> {
+        let mut block = ScalarReducer::new();
+        needs_send(&block);
+        assert_eq!(rt; (block.ins(), block.outs()), (2, 1));
+        assert_eq!(rt; block.wish(), Wish::Take(0));
+        block.take(0, Item(0))?;
+        assert_eq!(rt; block.wish(), Wish::Take(1));
+        block.take(1, Stop(0))?;
+        assert_eq!(rt; block.wish(), Wish::Put(0, Empty));
+        block.did_put();
+        assert_eq!(rt; block.wish(), Wish::Take(0));
+        Ok(())
+    }
+}
