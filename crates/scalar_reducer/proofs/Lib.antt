@@ -1,0 +1,3 @@
+mod LeftSum
+mod SumRuns
+mod Worked
