@@ -12,3 +12,11 @@ mod Either
 mod MergeFlows
 mod FillFlows
 pub mod All
+mod Works
+mod WorkedCopies
+mod WorkedMerges
+mod WorkedArithmetic
+mod WorkedReducers
+mod WorkedShapes
+mod WorkedWriters
+mod WorkedFits
