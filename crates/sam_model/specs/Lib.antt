@@ -2,3 +2,4 @@ pub mod Lists
 pub mod Tensors
 pub mod Denote
 pub mod ResultText
+pub mod Children

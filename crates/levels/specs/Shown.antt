@@ -1,0 +1,13 @@
+-- What a level holds.
+use Rattle.std.specs.Prelude.{ℕ, ◌*◌, List, length}
+use Rattle.levels.specs.declared.level.Level.{Level}
+use Rattle.levels.specs.declared.level.Level.TheVariants.{Dense, Compressed}
+use Rattle.levels.specs.Arrays.{dense_children, fibers}
+
+abbrev pub level_count : Level → ℕ
+level_count (Dense level) = level.parents * level.size
+level_count (Compressed level) = length level.coordinates.items
+
+abbrev pub level_children : Level → List (List (ℕ × ℕ))
+level_children (Dense level) = dense_children level.size level.parents
+level_children (Compressed level) = fibers level.segments.items level.coordinates.items

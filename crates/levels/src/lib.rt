@@ -1,0 +1,12 @@
+//! Tensor storage, level by level: a dense level stores its size, a compressed level a segment array and a coordinate
+//! array. Contracts see a storage by the ranks of its stored prefixes.
+#![tactic(auto)]
+
+mod compressed;
+mod dense;
+mod faults;
+mod level;
+mod storage;
+
+pub use faults::BuildFault;
+pub use storage::Storage;

@@ -1,0 +1,67 @@
+//! The storage of a tensor and its calls.
+
+ghost use Rattle.std.specs.Prelude.{◌≡◌, ◌<◌, length, Some, slice_get, slice_index};
+ghost use Rattle.levels.specs.Reads.{children_at, fiber_at};
+
+use crate::level::Level;
+use std::marker::Model;
+
+/// A stored tensor. Its references are ranks: the rank of a stored prefix is the number of smaller stored prefixes of
+/// its length, and the rank of the empty prefix is 0. Levels count from 1.
+#[derive(Debug, Drop)]
+pub struct Storage {
+    levels: Vec<Level>,
+    values: Vec<u64>,
+}
+
+impl Model for Storage {
+    ghost use Rattle.std.specs.Prelude.{◌∷◌};
+    ghost use mathlib.Core.List.{map};
+    ghost use Rattle.sam_model.specs.Children.{Ranked};
+    ghost use Rattle.levels.specs.Shown.{level_count, level_children};
+
+    ghost Value = { Ranked };
+
+    ghost view = { λ s. record { counts = 1 ∷ map level_count s.levels.items; children = map level_children s.levels.items; values = s.values.items } };
+}
+
+impl Storage {
+    /// The number of stored prefixes of this length; 1 for length 0.
+    pub fn count(&self, level: u8) -> u64
+        requires { level < length self.now.counts }
+        ensures { result ≡ slice_index self.now.counts level }
+    {
+        if level == 0 {
+            1
+        } else {
+            self.levels[level as usize - 1].count()
+        }
+    }
+
+    /// The number of children of the stored prefix of length `level - 1` and rank r.
+    pub fn fiber_len(&self, level: u8, r: u64) -> u64
+        requires counted { 0 < level }
+        requires parent { r < length (children_at self.now level) }
+        ensures { result ≡ length (fiber_at self.now level r) }
+    {
+        self.levels[level as usize - 1].fiber_len(r)
+    }
+
+    /// The coordinate of the n-th child of that prefix, in ascending order, and the child's rank.
+    pub fn child(&self, level: u8, r: u64, n: u64) -> (u64, u64)
+        requires counted { 0 < level }
+        requires parent { r < length (children_at self.now level) }
+        requires child { n < length (fiber_at self.now level r) }
+        ensures { slice_get (fiber_at self.now level r) n ≡ Some result }
+    {
+        self.levels[level as usize - 1].child(r, n)
+    }
+
+    /// The value at the full stored prefix of rank r.
+    pub fn value(&self, r: u64) -> u64
+        requires { r < length self.now.values }
+        ensures { result ≡ slice_index self.now.values r }
+    {
+        self.values[r as usize]
+    }
+}
