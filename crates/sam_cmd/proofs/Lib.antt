@@ -1,2 +1,3 @@
 pub mod OneFiber
 pub mod Reading
+pub mod SharedFacts

@@ -5,7 +5,11 @@ use Rattle.std.proofs.Math.Seq.{drop-cons}
 use Rattle.std.proofs.Math.ListN.{drop_of_length-le}
 use Rattle.std.proofs.lemmas.List.{append-nil}
 use Rattle.std.proofs.lemmas.Option.{slice_get_within, get_or_from_slice_get, slice_get-get_or}
+use mathlib.Core.List.{map}
 use Rattle.stream_tokens.specs.declared.Token.{Token}
+use Rattle.stream_tokens.specs.declared.Token.TheVariants.{Item, Empty, Stop, Done}
+use Rattle.stream_tokens.specs.Flat.{written}
+use Rattle.block_core.specs.Change.{ItemsBelow}
 use Rattle.sam_cmd.specs.Lists.{Shared, nothing_shared, shared_with, merge_step, share, share_along, times, products, Pairs, keep_pair, present}
 use Rattle.sam_cmd.specs.Next.{chosen}
 use Rattle.sam_cmd.specs.declared.lists.Next.{Next}
@@ -35,6 +39,34 @@ module _ (xs ys : List Token) (n : ℕ) (a b : Token) (left : slice_get xs n ≡
 
   pub present-head : present (drop n xs) (drop n ys) ≡ keep_pair a b (present (drop (n + 1) xs) (drop (n + 1) ys))
   present-head = ap (λ l. present l (drop n ys)) (drop-get xs n a left) ∙ ap (λ l. present (a ∷ drop (n + 1) xs) l) (drop-get ys n b right)
+
+-- one child more of a fiber
+pub written-head :
+    {A : Type 0} (f : A → ℕ) (kids : List A) (n : ℕ) (kid : A) (out now : List Token) (rest : List Token) → slice_get kids n ≡ Some kid →
+    now ≡ out ++ Item (f kid) ∷ [] → now ++ written Item (map f (drop (n + 1) kids)) rest ≡ out ++ written Item (map f (drop n kids)) rest
+written-head f kids n kid out now rest here grew =
+    ap (λ l. l ++ written Item (map f (drop (n + 1) kids)) rest) grew
+      ∙ append_assoc out (Item (f kid) ∷ []) (written Item (map f (drop (n + 1) kids)) rest)
+      ∙ ap (λ l. out ++ written Item (map f l) rest) (sym (drop-get kids n kid here))
+
+-- of the references in range that are left, the first and the others are in range
+module _ (m : ℕ) (refs : List Token) (n : ℕ) (r : Token) (here : slice_get refs n ≡ Some r) (all : ItemsBelow m (drop n refs)) where
+  parts : (t : Token) (rest : List Token) → ItemsBelow m (t ∷ rest) → ItemsBelow m (t ∷ []) × ItemsBelow m rest
+  parts (Item k) rest within = ((within.0, tt), within.1)
+  parts Empty rest within = (tt, within)
+  parts (Stop k) rest within = (tt, within)
+  parts Done rest within = (tt, within)
+
+  pub below-first : ItemsBelow m (r ∷ [])
+  below-first = (parts r _ (subst (ItemsBelow m) (drop-get refs n r here) all)).0
+
+  pub below-rest : ItemsBelow m (drop (n + 1) refs)
+  below-rest = (parts r _ (subst (ItemsBelow m) (drop-get refs n r here) all)).1
+
+pub mapped-head :
+    (f : Token → Token) (refs : List Token) (n : ℕ) (r : Token) → slice_get refs n ≡ Some r →
+    map f (drop n refs) ≡ f r ∷ map f (drop (n + 1) refs)
+mapped-head f refs n r here = ap (map f) (drop-get refs n r here)
 
 -- what the heads of two sides leave
 share-step :

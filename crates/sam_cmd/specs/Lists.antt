@@ -5,6 +5,13 @@ use Rattle.stream_tokens.specs.declared.Token.{Token}
 use Rattle.stream_tokens.specs.declared.Token.TheVariants.{Item, Empty, Stop, Done}
 use Rattle.stream_tokens.specs.Flat.{written}
 
+-- a child's coordinate, and its rank
+abbrev pub first : ℕ × ℕ → ℕ
+first child = child.0
+
+abbrev pub second : ℕ × ℕ → ℕ
+second child = child.1
+
 -- the stream of one number
 abbrev pub root_tokens : List Token
 root_tokens = Item 0 ∷ Done ∷ []

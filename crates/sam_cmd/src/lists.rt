@@ -1,10 +1,15 @@
 //! Block functions over whole token lists, for the product of two vectors: one list for each channel of its graph.
 
-ghost use Rattle.std.specs.Prelude.{◌≡◌, ◌<◌, ◌++◌, ◌∷◌, [], length, IfOk, OnOk};
+ghost use Rattle.std.specs.Prelude.{◌≡◌, ◌<◌, ◌++◌, List, ◌∷◌, [], length, map, IfOk, OnOk};
 ghost use Rattle.stream_tokens.specs.declared.Token.{Token};
-ghost use Rattle.sam_cmd.specs.Lists.{root_tokens, share, products, times, present, Pairs, keep_pair};
+ghost use Rattle.stream_tokens.specs.declared.Token.TheVariants.{Item};
+ghost use Rattle.stream_tokens.specs.Flat.{written};
+ghost use Rattle.block_core.specs.Change.{ItemsBelow, on_item, value_at};
+ghost use Rattle.levels.specs.Reads.{children_at, fiber_at};
+ghost use Rattle.sam_cmd.specs.Lists.{first, second, fiber_tokens, root_tokens, share, products, times, present, Pairs, keep_pair};
 ghost use Rattle.sam_cmd.specs.Next.{GoesOn};
 
+use levels::Storage;
 use std::alloc::{AllocError, Global};
 use stream_tokens::{Stream, Token};
 
@@ -23,6 +28,112 @@ pub fn copy(alloc: Global, stream: &Stream) -> Result<Stream, AllocError>
     ensures { IfOk result (λ other. other ≡ stream.now) }
 {
     Ok(Stream::from_vec(Vec::from_slice(alloc, stream.as_slice())?))
+}
+
+/// Coordinates with their references or values, in two streams of one shape.
+#[derive(Drop)]
+pub struct Side {
+    pub coordinates: Stream,
+    pub payloads: Stream,
+}
+
+impl Side {
+    pub fn new(alloc: Global) -> Side
+        ensures coordinates { result.coordinates ≡ [] }
+        ensures payloads { result.payloads ≡ [] }
+    {
+        Side {
+            coordinates: Stream::new(alloc),
+            payloads: Stream::new(alloc),
+        }
+    }
+
+    pub fn push(&mut self, coordinate: Token, payload: Token) -> Result<(), AllocError>
+        ensures coordinates { OnOk result (self.new.coordinates ≡ self.old.coordinates ++ coordinate ∷ []) }
+        ensures payloads { OnOk result (self.new.payloads ≡ self.old.payloads ++ payload ∷ []) }
+    {
+        self.coordinates.push(coordinate)?;
+        self.payloads.push(payload)?;
+        Ok(())
+    }
+
+    /// Appends a coordinate with its value, unless that is absent.
+    fn keep(&mut self, coordinate: Token, value: Token) -> Result<(), AllocError>
+        ensures coordinates {
+            OnOk result
+                ((rest : Pairs) → self.new.coordinates ++ rest.0 ≡ self.old.coordinates ++ (keep_pair coordinate value rest).0)
+        }
+        ensures values {
+            OnOk result
+                ((rest : Pairs) → self.new.payloads ++ rest.1 ≡ self.old.payloads ++ (keep_pair coordinate value rest).1)
+        }
+    {
+        match (coordinate, value) {
+            (Token::Item(_), Token::Empty) => Ok(()),
+            _ => self.push(coordinate, value),
+        }
+    }
+}
+
+/// The coordinates of a vector with their references, beneath the root.
+pub fn scan(alloc: Global, storage: &Storage, references: &Stream) -> Result<Side, AllocError>
+    requires root { references.now ≡ root_tokens }
+    requires stored { 0 < length (children_at storage.now 1) }
+    ensures coordinates { IfOk result (λ side. side.coordinates ≡ fiber_tokens (map first (fiber_at storage.now 1 0))) }
+    ensures payloads { IfOk result (λ side. side.payloads ≡ fiber_tokens (map second (fiber_at storage.now 1 0))) }
+{
+    let mut side = Side::new(alloc);
+    match references.get(0) {
+        Token::Item(root) => scan_fiber(storage, root, &mut side)?,
+        _ => unreachable!(),
+    }
+    side.push(Token::Stop(0), Token::Stop(0))?;
+    side.push(Token::Done, Token::Done)?;
+    Ok(side)
+}
+
+/// Appends the children of a reference, with theirs.
+fn scan_fiber(storage: &Storage, reference: u64, side: &mut Side) -> Result<(), AllocError>
+    requires stored { reference < length (children_at storage.now 1) }
+    ensures coordinates {
+        OnOk result
+            ((rest : List Token) → side.new.coordinates ++ rest
+                ≡ side.old.coordinates ++ written Item (map first (fiber_at storage.now 1 reference)) rest)
+    }
+    ensures payloads {
+        OnOk result
+            ((rest : List Token) → side.new.payloads ++ rest
+                ≡ side.old.payloads ++ written Item (map second (fiber_at storage.now 1 reference)) rest)
+    }
+{
+    for n in 0..storage.fiber_len(1, reference) {
+        let (coordinate, child) = storage.child(1, reference, n);
+        side.push(Token::Item(coordinate), Token::Item(child))?;
+    }
+    Ok(())
+}
+
+/// The values at references.
+pub fn array(alloc: Global, storage: &Storage, references: &Stream) -> Result<Stream, AllocError>
+    requires { ItemsBelow (length storage.now.values) references.now }
+    ensures { IfOk result (λ values. values ≡ map (on_item (value_at storage.now.values)) references.now) }
+{
+    let mut values = Stream::new(alloc);
+    for n in 0..references.len() {
+        values.push(value_token(storage, references.get(n)))?;
+    }
+    Ok(values)
+}
+
+/// The value at a reference; all else stays.
+fn value_token(storage: &Storage, reference: Token) -> Token
+    requires { ItemsBelow (length storage.now.values) (reference ∷ []) }
+    ensures { result ≡ on_item (value_at storage.now.values) reference }
+{
+    match reference {
+        Token::Item(r) => Token::Item(storage.value(r)),
+        other => other,
+    }
 }
 
 /// The coordinates that two vectors share, with the references of both.
@@ -101,51 +212,6 @@ pub fn multiply(alloc: Global, left: &Stream, right: &Stream) -> Result<Stream, 
         stream.push(times_tokens(left.get(n), right.get(n)))?;
     }
     Ok(stream)
-}
-
-/// Coordinates with their references or values, in two streams of one shape.
-#[derive(Drop)]
-pub struct Side {
-    pub coordinates: Stream,
-    pub payloads: Stream,
-}
-
-impl Side {
-    pub fn new(alloc: Global) -> Side
-        ensures coordinates { result.coordinates ≡ [] }
-        ensures payloads { result.payloads ≡ [] }
-    {
-        Side {
-            coordinates: Stream::new(alloc),
-            payloads: Stream::new(alloc),
-        }
-    }
-
-    pub fn push(&mut self, coordinate: Token, payload: Token) -> Result<(), AllocError>
-        ensures coordinates { OnOk result (self.new.coordinates ≡ self.old.coordinates ++ coordinate ∷ []) }
-        ensures payloads { OnOk result (self.new.payloads ≡ self.old.payloads ++ payload ∷ []) }
-    {
-        self.coordinates.push(coordinate)?;
-        self.payloads.push(payload)?;
-        Ok(())
-    }
-
-    /// Appends a coordinate with its value, unless that is absent.
-    fn keep(&mut self, coordinate: Token, value: Token) -> Result<(), AllocError>
-        ensures coordinates {
-            OnOk result
-                ((rest : Pairs) → self.new.coordinates ++ rest.0 ≡ self.old.coordinates ++ (keep_pair coordinate value rest).0)
-        }
-        ensures values {
-            OnOk result
-                ((rest : Pairs) → self.new.payloads ++ rest.1 ≡ self.old.payloads ++ (keep_pair coordinate value rest).1)
-        }
-    {
-        match (coordinate, value) {
-            (Token::Item(_), Token::Empty) => Ok(()),
-            _ => self.push(coordinate, value),
-        }
-    }
 }
 
 /// Keeps the coordinates that have a value.
