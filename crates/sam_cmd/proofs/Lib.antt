@@ -1,3 +1,4 @@
 pub mod OneFiber
 pub mod Reading
 pub mod SharedFacts
+pub mod VectorStored

@@ -71,8 +71,6 @@ module _ (P Q : ℕ → Bool) (f g : ℕ → ℕ) where
   share-ranges a zero = refl
   share-ranges a (suc n) = by_case (P a) (Q a) (share-ranges (a + 1) n)
     where
-      xs : List ℕ
-      xs = filter P (range_with_len (a + 1) n)
       by_case :
           (p q : Bool) → shared_ranges (a + 1) n ≡ shared_fiber (both_pass (a + 1) n) →
           share (fiber_tokens (cond p (a ∷ filter P (range_with_len (a + 1) n)) (filter P (range_with_len (a + 1) n))))
