@@ -25,9 +25,11 @@ found files name k file inside got same kept =
     let cons : drop k files ≡ file ∷ drop (suc k) files = drop-cons files k file inside ∙ ap (λ f. f ∷ drop (suc k) files) (sym got) in
     let first : bytes_of files name ≡ Some file.1 = sym kept ∙ ap (λ l. bytes_of l name) cons ∙ ap (λ b. if b then Some file.1 else bytes_of (drop (suc k) files) name) same in
     let first_self : bytes_of files file.0 ≡ Some file.1 = ap (λ n. bytes_of files n) e ∙ first in
-    let place : named_place (slice_get files k) 0 ≡ Some (name, 0) = ap (λ o. named_place o 0) at_k ∙ ap (λ n. Some (n, 0)) e in
-    (record
-      { inside = inside;
+    let place : named_place (slice_get files k) 0 ≡ Some (name, 0) = ap (λ o. named_place o 0) at_k ∙ ap (λ n. Some (n, 0)) e in (
+      record {
+        inside = inside;
         first = λ other here. grind (arith, first_self, at_k, here);
-        within = λ other here. omega arith },
-      place)
+        within = λ other here. omega arith;
+      },
+      place,
+    )

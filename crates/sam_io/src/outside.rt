@@ -27,8 +27,11 @@ pub enum Opened {
 /// that failed and the names that were not there; both start at 0 and stand still at 2^64-1.
 pub trait Files {
     ghost told: { Self → Option Told };
+
     ghost place: { Self → Place };
+
     ghost faults: { Self → ℕ };
+
     ghost misses: { Self → ℕ };
 
     /// Begins the named file at its first byte, and gives up the one that was begun before.
@@ -64,6 +67,7 @@ pub trait Files {
 /// the writes that failed; it starts at 0 and stands still at 2^64-1.
 pub trait Sink {
     ghost written: { Self → Option (List ℕ) };
+
     ghost faults: { Self → ℕ };
 
     /// Appends the first bytes of a piece: at least one, and none where it fails. A device that

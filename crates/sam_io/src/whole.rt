@@ -41,10 +41,8 @@ pub fn read_whole<F: Files>(alloc: Global, files: &mut F, name: &Name) -> Result
     ensures over { IsErrOf result ReadEnd.TooLong → LongerThan (F.told files.old) name.now FILE_MOST }
 
     // want of memory may come at any byte
-    ensures only_long {
-        F.place files.new ≡ Some (name.now, FILE_MOST + 1) →
-            IsErrOf result ReadEnd.TooLong ⊎ IsErrOf result ReadEnd.OutOfMemory
-    }
+    ensures only_long { F.place files.new ≡ Some (name.now, FILE_MOST + 1) →
+        IsErrOf result ReadEnd.TooLong ⊎ IsErrOf result ReadEnd.OutOfMemory }
 
     ensures faults { F.faults files.old ≤ F.faults files.new }
     ensures misses { F.misses files.old ≤ F.misses files.new }
@@ -69,10 +67,8 @@ fn read_begun<F: Files>(alloc: Global, files: &mut F, name: &Name) -> Result<Nam
     ensures failed { IsErrOf result ReadEnd.Failed → Rose (F.faults files.old) (F.faults files.new) }
     ensures long { IsErrOf result ReadEnd.TooLong → F.place files.new ≡ Some (name.now, FILE_MOST + 1) }
     ensures over { IsErrOf result ReadEnd.TooLong → LongerThan (F.told files.old) name.now FILE_MOST }
-    ensures only_long {
-        F.place files.new ≡ Some (name.now, FILE_MOST + 1) →
-            IsErrOf result ReadEnd.TooLong ⊎ IsErrOf result ReadEnd.OutOfMemory
-    }
+    ensures only_long { F.place files.new ≡ Some (name.now, FILE_MOST + 1) →
+        IsErrOf result ReadEnd.TooLong ⊎ IsErrOf result ReadEnd.OutOfMemory }
     ensures faults { F.faults files.old ≤ F.faults files.new }
     ensures misses { F.misses files.old ≤ F.misses files.new }
 {
