@@ -32,7 +32,7 @@ leads_between limit k b below h [] rest e = e
 leads_between limit k b below h (x ∷ []) rest e = h x rest e
 leads_between limit k b below h (x ∷ y ∷ xs) rest e =
     leads_both limit (b x) (Stop k ∷ between (Stop k) (map b (y ∷ xs))) (h x)
-      (λ r f. (below, leads_between limit k b below h (y ∷ xs) r f)) rest e
+    (λ r f. (below, leads_between limit k b below h (y ∷ xs) r f)) rest e
 
 leads_joined : {A : Type 0} (limit k : ℕ) (b : A → List Token) → k ≤ limit → ((x : A) → Leads limit (b x))
     → (xs : List A) → Leads limit (joined k b xs)

@@ -1,3 +1,5 @@
 pub mod Nest
 pub mod Flat
 pub mod Shapes
+pub mod Body
+pub mod Texts

@@ -47,6 +47,10 @@ end_of (suc d) = Stop d ∷ Done ∷ []
 abbrev pub stream : (d : ℕ) → Nest Leaf d → List Token
 stream d t = body d 0 (λ o. leaf o ∷ []) t ++ end_of d
 
+-- a list of tokens is the stream of some tree of depth d
+abbrev pub HasDepth : ℕ → List Token → Type 0
+HasDepth d s = (t : Nest Leaf d) × (s ≡ stream d t)
+
 -- a list of tokens is the stream of some tree of some depth up to 200
 abbrev pub IsStream : List Token → Type 0
 IsStream s = (d : ℕ) × (d ≤ 200) × (t : Nest Leaf d) × (s ≡ stream d t)

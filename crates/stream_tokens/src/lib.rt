@@ -4,9 +4,13 @@
 //! a stop of level n where n + 1 lists end together, and one last token.
 #![tactic(auto)]
 
+mod depth;
 mod stream;
+mod text;
 
+pub use depth::has_depth;
 pub use stream::Stream;
+pub use text::stream_text;
 
 /// One token of a stream.
 #[derive(Clone, Copy, Debug, Drop, PartialEq, Eq)]
