@@ -1,6 +1,7 @@
 //! The block that copies one stream to several outputs.
 
-ghost use Rattle.std.specs.Prelude.{◌≡◌, ℕ, ◌+◌, false};
+ghost use Rattle.std.specs.Prelude.{◌≡◌, ℕ, ◌+◌, List, false, slice_get, Some, IsOk, IfOk, IfErr};
+ghost use Rattle.block_core.specs.Move.{Taking, Putting};
 ghost use Rattle.block_core.specs.Ports.{Streams};
 ghost use Rattle.block_core.specs.Kind.{CastKind, Fits, moves};
 ghost use Rattle.block_core.specs.Stands.{Stands};
@@ -109,14 +110,25 @@ impl BlockStep for Broadcast {
         self.state.wants(self.outs)
     }
 
+    // Any token is taken as it comes, so the trait's condition isn't needed.
     #[inline]
-    fn take(&mut self, _port: u32, t: Token) -> Result<(), AllocError> {
+    fn take(&mut self, port: u32, t: Token) -> Result<(), AllocError>
+        ensures same_kind { ⟦<Broadcast as BlockStep>⟧.kind self.new ≡ ⟦<Broadcast as BlockStep>⟧.kind self.old }
+        ensures same_refusal { ⟦<Broadcast as BlockStep>⟧.may_refuse self.new ≡ ⟦<Broadcast as BlockStep>⟧.may_refuse self.old }
+        ensures moved { IfOk result (λ _. (s : Streams) (n : ℕ) → ⟦<Broadcast as BlockStep>⟧.stands self.old s n → slice_get (moves (CastKind self.old.outs) s) n ≡ Some (Taking port t) → ⟦<Broadcast as BlockStep>⟧.stands self.new s (n + 1)) }
+        ensures refused { IfErr result (λ _. self.new ≡ self.old) }
+        ensures sure { IsOk result }
+    {
         self.state = self.state.took(self.outs, t);
         Ok(())
     }
 
     #[inline]
-    fn did_put(&mut self) {
+    fn did_put(&mut self)
+        ensures same_kind { ⟦<Broadcast as BlockStep>⟧.kind self.new ≡ ⟦<Broadcast as BlockStep>⟧.kind self.old }
+        ensures same_refusal { ⟦<Broadcast as BlockStep>⟧.may_refuse self.new ≡ ⟦<Broadcast as BlockStep>⟧.may_refuse self.old }
+        ensures moved { (s : Streams) (n : ℕ) (port : ℕ) (t : Token) → ⟦<Broadcast as BlockStep>⟧.stands self.old s n → slice_get (moves (CastKind self.old.outs) s) n ≡ Some (Putting port t) → ⟦<Broadcast as BlockStep>⟧.stands self.new s (n + 1) }
+    {
         self.state = self.state.put(self.outs);
     }
 

@@ -9,3 +9,6 @@ pub use cast::Broadcast;
 pub use repeat::Repeater;
 pub use sink::Drain;
 
+
+#[cfg(test)]
+mod tests;

@@ -1,6 +1,7 @@
 //! The block that repeats each token of an outer stream along the fiber that lies beneath it.
 
-ghost use Rattle.std.specs.Prelude.{◌≡◌, ℕ, ◌+◌, false};
+ghost use Rattle.std.specs.Prelude.{◌≡◌, ℕ, ◌+◌, List, false, slice_get, Some, IsOk, IfOk, IfErr};
+ghost use Rattle.block_core.specs.Move.{Taking, Putting};
 ghost use Rattle.block_core.specs.Ports.{Streams};
 ghost use Rattle.block_core.specs.Kind.{RepeatKind, Fits, moves};
 ghost use Rattle.block_core.specs.Stands.{Stands};
@@ -120,14 +121,25 @@ impl BlockStep for Repeater {
         self.state.wants()
     }
 
+    // Any token is taken as it comes, so the trait's condition isn't needed.
     #[inline]
-    fn take(&mut self, _port: u32, t: Token) -> Result<(), AllocError> {
+    fn take(&mut self, port: u32, t: Token) -> Result<(), AllocError>
+        ensures same_kind { ⟦<Repeater as BlockStep>⟧.kind self.new ≡ ⟦<Repeater as BlockStep>⟧.kind self.old }
+        ensures same_refusal { ⟦<Repeater as BlockStep>⟧.may_refuse self.new ≡ ⟦<Repeater as BlockStep>⟧.may_refuse self.old }
+        ensures moved { IfOk result (λ _. (s : Streams) (n : ℕ) → ⟦<Repeater as BlockStep>⟧.stands self.old s n → slice_get (moves (RepeatKind) s) n ≡ Some (Taking port t) → ⟦<Repeater as BlockStep>⟧.stands self.new s (n + 1)) }
+        ensures refused { IfErr result (λ _. self.new ≡ self.old) }
+        ensures sure { IsOk result }
+    {
         self.state = self.state.took(t);
         Ok(())
     }
 
     #[inline]
-    fn did_put(&mut self) {
+    fn did_put(&mut self)
+        ensures same_kind { ⟦<Repeater as BlockStep>⟧.kind self.new ≡ ⟦<Repeater as BlockStep>⟧.kind self.old }
+        ensures same_refusal { ⟦<Repeater as BlockStep>⟧.may_refuse self.new ≡ ⟦<Repeater as BlockStep>⟧.may_refuse self.old }
+        ensures moved { (s : Streams) (n : ℕ) (port : ℕ) (t : Token) → ⟦<Repeater as BlockStep>⟧.stands self.old s n → slice_get (moves (RepeatKind) s) n ≡ Some (Putting port t) → ⟦<Repeater as BlockStep>⟧.stands self.new s (n + 1) }
+    {
         self.state = self.state.put();
     }
 

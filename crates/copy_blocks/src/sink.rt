@@ -80,8 +80,15 @@ impl BlockStep for Drain {
         self.state.wants()
     }
 
+    // Any token is taken as it comes, so the trait's condition isn't needed.
     #[inline]
-    fn take(&mut self, _port: u32, t: Token) -> Result<(), AllocError> {
+    fn take(&mut self, port: u32, t: Token) -> Result<(), AllocError>
+        ensures same_kind { ⟦<Drain as BlockStep>⟧.kind self.new ≡ ⟦<Drain as BlockStep>⟧.kind self.old }
+        ensures same_refusal { ⟦<Drain as BlockStep>⟧.may_refuse self.new ≡ ⟦<Drain as BlockStep>⟧.may_refuse self.old }
+        ensures moved { IfOk result (λ _. (s : Streams) (n : ℕ) → ⟦<Drain as BlockStep>⟧.stands self.old s n → slice_get (moves (DrainKind) s) n ≡ Some (Taking port t) → ⟦<Drain as BlockStep>⟧.stands self.new s (n + 1)) }
+        ensures refused { IfErr result (λ _. self.new ≡ self.old) }
+        ensures sure { IsOk result }
+    {
         self.state = self.state.took(t);
         Ok(())
     }

@@ -1,0 +1,32 @@
+-- A new block that puts each token changed makes the moves of its kind.
+use Rattle.std.proofs.Common.{◌≡◌, ℕ, List, [], ◌∷◌, length, refl, sym, subst}
+use Rattle.stream_tokens.specs.declared.Token.{Token}
+use Rattle.stream_tokens.specs.declared.Token.TheVariants.{Item, Empty, Stop, Done}
+use Rattle.stream_tokens.proofs.Ending.{EndsWithin, IsStream-ends}
+use Rattle.block_core.specs.Change.{value_at, change_moves}
+use Rattle.block_core.specs.Ports.{Streams, AllStreams, port}
+use Rattle.block_core.specs.Kind.{ConstKind, ArrayKind, Fits}
+use Rattle.block_core.specs.Runs.{Runs}
+use Rattle.block_core.specs.Stands.{Stands}
+use Rattle.block_core.proofs.Standing.{stands_start}
+use Rattle.alu_array.specs.ChangeSteps.{change_steps}
+use Rattle.alu_array.specs.declared.change.ChangeState.TheVariants.{Wanting, Ended}
+
+pub change_run : (f : ℕ → ℕ) (s : List Token) → EndsWithin 200 s → Runs (change_steps f) Wanting (change_moves f s)
+change_run f [] e = absurd e
+change_run f (Item x ∷ s) e = (refl, (refl, change_run f s e))
+change_run f (Empty ∷ s) e = (refl, (refl, change_run f s e))
+change_run f (Stop n ∷ s) e = (refl, (refl, change_run f s e.1))
+change_run f (Done ∷ s) e = (refl, (refl, subst (λ (x : List Token). Runs (change_steps f) Ended (change_moves f x)) (sym e) refl))
+
+pub constant_starts : (value : ℕ) (s : Streams) → Fits (ConstKind value) s
+    → Stands (Runs (change_steps (λ _. value)) Wanting) (ConstKind value) s 0
+constant_starts value s f =
+    let whole : AllStreams (port 0 s ∷ []) = subst AllStreams (sym f.back) f.streams in
+    stands_start (change_steps (λ _. value)) Wanting (ConstKind value) s f (change_run (λ _. value) (port 0 s) (IsStream-ends (port 0 s) whole.0))
+
+pub array_starts : (values : List ℕ) (s : Streams) → Fits (ArrayKind values) s
+    → Stands (Runs (change_steps (value_at values)) Wanting) (ArrayKind values) s 0
+array_starts values s f =
+    let whole : AllStreams (port 0 s ∷ []) = subst AllStreams (sym f.back) f.streams in
+    stands_start (change_steps (value_at values)) Wanting (ArrayKind values) s f (change_run (value_at values) (port 0 s) (IsStream-ends (port 0 s) whole.0))

@@ -1,0 +1,3 @@
+mod AluRuns
+mod ChangeRuns
+mod RootRuns

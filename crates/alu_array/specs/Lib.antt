@@ -1,0 +1,4 @@
+pub mod Operations
+pub mod AluSteps
+pub mod ChangeSteps
+pub mod RootSteps

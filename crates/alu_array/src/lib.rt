@@ -1,0 +1,13 @@
+//! The blocks that change single tokens, or two side by side: the array, the arithmetic unit, the constant and the root.
+#![tactic(auto)]
+
+mod change;
+mod constants;
+mod operation;
+mod origin;
+mod unit;
+
+pub use constants::Constant;
+pub use operation::{Op, combine};
+pub use origin::Root;
+pub use unit::Alu;
