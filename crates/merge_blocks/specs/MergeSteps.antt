@@ -48,12 +48,15 @@ row_token l tokens Right zero = get_or tokens (l + 1) Empty
 row_token l tokens Right (suc p) = if nat_le (suc p) l then Empty else get_or tokens (suc p + 1) Empty
 row_token l tokens Both p = if nat_le p l then get_or tokens p Empty else get_or tokens (p + 1) Empty
 
--- what follows where both heads are there
+-- what follows where both heads are there: a coordinate of one side alone is put, or passed over
+abbrev pub alone : Bool → ℕ → Heads → Stage
+alone true l heads = Putting heads 0
+alone false l heads = Taking heads (first_port l heads)
+
 abbrev pub choice : Bool → ℕ → Heads → Stage
-choice true l heads = Putting heads 0
-choice false l Both = Putting Both 0
-choice false l Left = Taking Left (first_port l Left)
-choice false l Right = Taking Right (first_port l Right)
+choice u l Left = alone u l Left
+choice u l Right = alone u l Right
+choice u l Both = Putting Both 0
 
 abbrev pub chosen : Bool → ℕ → List Token → Stage
 chosen u l tokens = choice u l (sooner (get_or tokens 0 Empty) (get_or tokens (l + 1) Empty))
