@@ -22,7 +22,7 @@ module _ (l r : ℕ) (few : l + r ≤ 8) (held : List Token) (x y : ℕ → Toke
     left = λ p b.
         let e : 0 + p ≡ p = omega arith in
         subst (λ (k : ℕ). get_or (kept held 0 (over z 0 (suc l))) k Empty ≡ z p) e
-            (kept-from held 0 z (suc l) p (omega arith) (omega (arith, h.places)));
+        (kept-from held 0 z (suc l) p (omega arith) (omega (arith, h.places)));
     right = λ p b. kept-above held 0 (over z 0 (suc l)) (suc l + p) (omega (arith, length-over z 0 (suc l))) ∙ h.right p b;
   }
 
@@ -41,7 +41,7 @@ alone_run : (u : Bool) (l r : ℕ) (heads : Heads) (held : List Token) (k : Head
     → Runs merge_steps (at u l r held (alone u l heads)) (put_alone u (l + r) k rest)
 alone_run true l r heads held k rest f e h =
     put_whole true l r heads held (λ p. head_token p k) rest f
-        (subst (λ (s : Stage). Runs merge_steps (at true l r held s) rest) (sym e) h)
+    (subst (λ (s : Stage). Runs merge_steps (at true l r held s) rest) (sym e) h)
 alone_run false l r heads held k rest f e h = h
 
 -- from where both heads are there, these moves are made
@@ -54,7 +54,7 @@ module _ (u : Bool) (l r : ℕ) (few : l + r ≤ 8) where
       → Runs merge_steps (at u l r held (Taking Left 0)) (take_row 0 (over z 0 (suc l)) rest)
   take_left held x y z h rest f =
       take_last u l r Left held 0 (over z 0 (suc l)) rest (omega arith) (omega (arith, length-over z 0 (suc l)))
-          (f (kept held 0 (over z 0 (suc l))) (left_kept l r few held x y h z))
+      (f (kept held 0 (over z 0 (suc l))) (left_kept l r few held x y h z))
 
   pub take_right : (held : List Token) (x y z : ℕ → Token) → Holds l r held x y → (rest : List Move)
       → ((held' : List Token) → Holds l r held' x z → Chooses u l r held' rest)
@@ -62,8 +62,8 @@ module _ (u : Bool) (l r : ℕ) (few : l + r ≤ 8) where
   take_right held x y z h rest f =
       let e : suc l ≡ l + 1 = omega arith in
       subst (λ (p : ℕ). Runs merge_steps (at u l r held (Taking Right p)) (take_row (suc l) (over z 0 (suc r)) rest)) e
-          (take_last u l r Right held (suc l) (over z 0 (suc r)) rest (omega arith) (omega (arith, length-over z 0 (suc r)))
-              (f (kept held (suc l) (over z 0 (suc r))) (right_kept l r few held x y h z)))
+      (take_last u l r Right held (suc l) (over z 0 (suc r)) rest (omega arith) (omega (arith, length-over z 0 (suc r)))
+      (f (kept held (suc l) (over z 0 (suc r))) (right_kept l r few held x y h z)))
 
   -- any tokens are held before
   pub take_both : (held : List Token) (x y : ℕ → Token) → length held ≡ 10 → (rest : List Move)
@@ -71,14 +71,14 @@ module _ (u : Bool) (l r : ℕ) (few : l + r ≤ 8) where
       → Runs merge_steps (at u l r held (Taking Both 0)) (take_row 0 (over x 0 (suc l)) (take_row (suc l) (over y 0 (suc r)) rest))
   take_both held x y places rest f =
       let before : Holds l r held (λ p. get_or held p Empty) (λ p. get_or held (suc l + p) Empty) =
-          record { places = places; left = λ p b. refl; right = λ p b. refl } in
+      record { places = places; left = λ p b. refl; right = λ p b. refl } in
       let held' : List Token = kept held 0 (over x 0 (suc l)) in
       let between : Holds l r held' x (λ p. get_or held (suc l + p) Empty) = left_kept l r few held _ _ before x in
       let e : suc l ≡ 0 + length (over x 0 (suc l)) = omega (arith, length-over x 0 (suc l)) in
       take_part u l r Both held 0 (over x 0 (suc l)) (take_row (suc l) (over y 0 (suc r)) rest) (omega (arith, length-over x 0 (suc l)))
-          (subst (λ (p : ℕ). Runs merge_steps (at u l r held' (Taking Both p)) (take_row (suc l) (over y 0 (suc r)) rest)) e
-              (take_last u l r Both held' (suc l) (over y 0 (suc r)) rest (omega arith) (omega (arith, length-over y 0 (suc r)))
-                  (f (kept held' (suc l) (over y 0 (suc r))) (right_kept l r few held' _ _ between y))))
+      (subst (λ (p : ℕ). Runs merge_steps (at u l r held' (Taking Both p)) (take_row (suc l) (over y 0 (suc r)) rest)) e
+      (take_last u l r Both held' (suc l) (over y 0 (suc r)) rest (omega arith) (omega (arith, length-over y 0 (suc r)))
+      (f (kept held' (suc l) (over y 0 (suc r))) (right_kept l r few held' _ _ between y))))
 
   -- ---- a row is put of heads that are held
 
@@ -89,8 +89,8 @@ module _ (u : Bool) (l r : ℕ) (few : l + r ≤ 8) where
         let a : l + 1 ≡ suc l + 0 = omega arith in
         let right : get_or held (l + 1) Empty ≡ y 0 = ap (λ (n : ℕ). get_or held n Empty) a ∙ h.right 0 (omega arith) in
         let c : chosen u l held ≡ choice u l heads =
-            ap (λ (t : Token). choice u l (sooner t (get_or held (l + 1) Empty))) (h.left 0 (omega arith))
-            ∙ ap (λ (t : Token). choice u l (sooner (x 0) t)) right ∙ ap (λ (s : Heads). choice u l s) e in
+        ap (λ (t : Token). choice u l (sooner t (get_or held (l + 1) Empty))) (h.left 0 (omega arith))
+        ∙ ap (λ (t : Token). choice u l (sooner (x 0) t)) right ∙ ap (λ (s : Heads). choice u l s) e in
         subst (λ (s : Stage). Runs merge_steps (at u l r held s) rest) (sym c) go
 
     pub put_both : sooner (x 0) (y 0) ≡ Both → (z : ℕ → Token)
@@ -98,15 +98,15 @@ module _ (u : Bool) (l r : ℕ) (few : l + r ≤ 8) where
         → Runs merge_steps (at u l r held (after_both (x 0))) rest → Chooses u l r held (put_row 0 (over z 0 (suc (l + r))) rest)
     put_both e z f g rest go =
         choose Both e (put_row 0 (over z 0 (suc (l + r))) rest)
-            (put_whole u l r Both held z rest (row-both l r held x y z h f g)
-                (subst (λ (t : Token). Runs merge_steps (at u l r held (after_both t)) rest) (sym (h.left 0 (omega arith))) go))
+        (put_whole u l r Both held z rest (row-both l r held x y z h f g)
+        (subst (λ (t : Token). Runs merge_steps (at u l r held (after_both t)) rest) (sym (h.left 0 (omega arith))) go))
 
     pub put_left : sooner (x 0) (y 0) ≡ Left → (k : Head)
         → ((p : ℕ) → p ≤ l → x p ≡ head_token p k) → ((p : ℕ) → p < r → Empty ≡ head_token (suc (l + p)) k) → (rest : List Move)
         → Runs merge_steps (at u l r held (Taking Left 0)) rest → Chooses u l r held (put_alone u (l + r) k rest)
     put_left e k f g rest go =
         choose Left e (put_alone u (l + r) k rest)
-            (alone_run u l r Left held k rest (row-left l r held x y (λ p. head_token p k) h f g) refl go)
+        (alone_run u l r Left held k rest (row-left l r held x y (λ p. head_token p k) h f g) refl go)
 
     pub put_right : sooner (x 0) (y 0) ≡ Right → (k : Head) → y 0 ≡ head_token 0 k
         → ((p : ℕ) → p < l → Empty ≡ head_token (suc p) k) → ((p : ℕ) → p < r → y (suc p) ≡ head_token (suc (l + p)) k)
@@ -114,4 +114,4 @@ module _ (u : Bool) (l r : ℕ) (few : l + r ≤ 8) where
         → Runs merge_steps (at u l r held (Taking Right (l + 1))) rest → Chooses u l r held (put_alone u (l + r) k rest)
     put_right e k c f g rest go =
         choose Right e (put_alone u (l + r) k rest)
-            (alone_run u l r Right held k rest (row-right l r held x y (λ p. head_token p k) h c f g) refl go)
+        (alone_run u l r Right held k rest (row-right l r held x y (λ p. head_token p k) h c f g) refl go)

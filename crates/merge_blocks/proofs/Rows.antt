@@ -86,10 +86,10 @@ take_run u l r heads held p (t ∷ ts) rest b h =
     let held' : List Token = set held p t in
     let e : p + suc (length ts) ≡ (p + 1) + length ts = omega arith in
     let h' : Runs merge_steps (at u l r (kept held' (p + 1) ts) (next_take u l r (kept held' (p + 1) ts) heads ((p + 1) + length ts))) rest =
-        subst (λ (n : ℕ). Runs merge_steps (at u l r (kept held' (p + 1) ts) (next_take u l r (kept held' (p + 1) ts) heads n)) rest) e h in
+    subst (λ (n : ℕ). Runs merge_steps (at u l r (kept held' (p + 1) ts) (next_take u l r (kept held' (p + 1) ts) heads n)) rest) e h in
     subst (λ (s : Stage). Runs merge_steps (at u l r held s) (take_row p (t ∷ ts) rest))
-        (sym (next_take-more u l r heads held p (omega arith)))
-        (refl, take_run u l r heads held' (p + 1) ts rest (omega arith) h')
+    (sym (next_take-more u l r heads held p (omega arith)))
+    (refl, take_run u l r heads held' (p + 1) ts rest (omega arith) h')
 
 -- the last row of heads is taken, or one before it
 pub take_last : (u : Bool) (l r : ℕ) (heads : Heads) (held : List Token) (p : ℕ) (row : List Token) (rest : List Move)
@@ -98,9 +98,9 @@ pub take_last : (u : Bool) (l r : ℕ) (heads : Heads) (held : List Token) (p : 
     → Runs merge_steps (at u l r held (Taking heads p)) (take_row p row rest)
 take_last u l r heads held p row rest b e h =
     subst (λ (s : Stage). Runs merge_steps (at u l r held s) (take_row p row rest)) (next_take-more u l r heads held p b)
-        (take_run u l r heads held p row rest (omega arith)
-            (subst (λ (s : Stage). Runs merge_steps (at u l r (kept held p row) s) rest)
-                (sym (next_take-done u l r heads (kept held p row) (p + length row) e)) h))
+    (take_run u l r heads held p row rest (omega arith)
+    (subst (λ (s : Stage). Runs merge_steps (at u l r (kept held p row) s) rest)
+    (sym (next_take-done u l r heads (kept held p row) (p + length row) e)) h))
 
 pub take_part : (u : Bool) (l r : ℕ) (heads : Heads) (held : List Token) (p : ℕ) (row : List Token) (rest : List Move)
     → p + length row < end_port l r heads
@@ -108,9 +108,9 @@ pub take_part : (u : Bool) (l r : ℕ) (heads : Heads) (held : List Token) (p : 
     → Runs merge_steps (at u l r held (Taking heads p)) (take_row p row rest)
 take_part u l r heads held p row rest b h =
     subst (λ (s : Stage). Runs merge_steps (at u l r held s) (take_row p row rest)) (next_take-more u l r heads held p (omega arith))
-        (take_run u l r heads held p row rest (omega arith)
-            (subst (λ (s : Stage). Runs merge_steps (at u l r (kept held p row) s) rest)
-                (sym (next_take-more u l r heads (kept held p row) (p + length row) b)) h))
+    (take_run u l r heads held p row rest (omega arith)
+    (subst (λ (s : Stage). Runs merge_steps (at u l r (kept held p row) s) rest)
+    (sym (next_take-more u l r heads (kept held p row) (p + length row) b)) h))
 
 next_put-more : (l r : ℕ) (heads : Heads) (held : List Token) (p : ℕ) → p < l + r + 1
     → next_put l r held heads p ≡ Putting heads p
@@ -129,13 +129,13 @@ put_run u l r heads held x zero q rest e f h =
     subst (λ (s : Stage). Runs merge_steps (at u l r held s) rest) (sym (next_put-done l r heads held q (omega arith))) h
 put_run u l r heads held x (suc n) q rest e f h =
     let h' : Runs merge_steps (at u l r held (next_put l r held heads (suc q))) (put_row (suc q) (over x (suc q) n) rest) =
-        put_run u l r heads held x n (suc q) rest (omega arith) f h in
+    put_run u l r heads held x n (suc q) rest (omega arith) f h in
     let g : suc q ≡ q + 1 = omega arith in
     let h'' : Runs merge_steps (at u l r held (next_put l r held heads (q + 1))) (put_row (q + 1) (over x (suc q) n) rest) =
-        subst (λ (k : ℕ). Runs merge_steps (at u l r held (next_put l r held heads k)) (put_row k (over x (suc q) n) rest)) g h' in
+    subst (λ (k : ℕ). Runs merge_steps (at u l r held (next_put l r held heads k)) (put_row k (over x (suc q) n) rest)) g h' in
     subst (λ (s : Stage). Runs merge_steps (at u l r held s) (put_row q (over x q (suc n)) rest))
-        (sym (next_put-more l r heads held q (omega arith)))
-        (ap (λ (t : Token). Put q t) (f q (omega arith)), h'')
+    (sym (next_put-more l r heads held q (omega arith)))
+    (ap (λ (t : Token). Put q t) (f q (omega arith)), h'')
 
 -- a whole row is put
 pub put_whole : (u : Bool) (l r : ℕ) (heads : Heads) (held : List Token) (x : ℕ → Token) (rest : List Move)
@@ -144,5 +144,5 @@ pub put_whole : (u : Bool) (l r : ℕ) (heads : Heads) (held : List Token) (x : 
     → Runs merge_steps (at u l r held (Putting heads 0)) (put_row 0 (over x 0 (suc (l + r))) rest)
 put_whole u l r heads held x rest f h =
     subst (λ (s : Stage). Runs merge_steps (at u l r held s) (put_row 0 (over x 0 (suc (l + r))) rest))
-        (next_put-more l r heads held 0 (omega arith))
-        (put_run u l r heads held x (suc (l + r)) 0 rest (omega arith) f h)
+    (next_put-more l r heads held 0 (omega arith))
+    (put_run u l r heads held x (suc (l + r)) 0 rest (omega arith) f h)

@@ -46,7 +46,7 @@ pub joined-right : (l r : ℕ) (c : ℕ) (ps : List Leaf) (k : Head) (p : ℕ) �
 joined-right l r c ps k p b =
     let e : length (padded l ps) + p ≡ l + p = omega (arith, length-padded l ps) in
     ap leaf (sym (ap (λ (n : ℕ). get_or (padded l ps ++ padded r k.1) n None) (sym e)
-        ∙ get_or-append-add (padded l ps) (padded r k.1) p None ∙ padded-at r k.1 p b))
+    ∙ get_or-append-add (padded l ps) (padded r k.1) p None ∙ padded-at r k.1 p b))
 
 -- ---- what is held, and the rows put of it
 
@@ -76,14 +76,16 @@ module _ (l r : ℕ) (held : List Token) (x y z : ℕ → Token) (h : Holds l r 
   pub row-both : ((p : ℕ) → p ≤ l → x p ≡ z p) → ((p : ℕ) → p < r → y (suc p) ≡ z (suc (l + p)))
       → (p : ℕ) → p < suc (l + r) → row_token l held Both p ≡ z p
   row-both f g p b = elim (cases_lt l p) [
-      inl c ↦ rw (le_false p l c) (right-held p b c ∙ g (p - suc l) (omega arith) ∙ ap z (sym (place l p c)))
-    | inr c ↦ rw (le_true p l c) (h.left p c ∙ f p c) ]
+    | inl c ↦ rw (le_false p l c) (right-held p b c ∙ g (p - suc l) (omega arith) ∙ ap z (sym (place l p c)))
+    | inr c ↦ rw (le_true p l c) (h.left p c ∙ f p c)
+  ]
 
   pub row-left : ((p : ℕ) → p ≤ l → x p ≡ z p) → ((p : ℕ) → p < r → Empty ≡ z (suc (l + p)))
       → (p : ℕ) → p < suc (l + r) → row_token l held Left p ≡ z p
   row-left f g p b = elim (cases_lt l p) [
-      inl c ↦ rw (le_false p l c) (g (p - suc l) (omega arith) ∙ ap z (sym (place l p c)))
-    | inr c ↦ rw (le_true p l c) (h.left p c ∙ f p c) ]
+    | inl c ↦ rw (le_false p l c) (g (p - suc l) (omega arith) ∙ ap z (sym (place l p c)))
+    | inr c ↦ rw (le_true p l c) (h.left p c ∙ f p c)
+  ]
 
   pub row-right : y 0 ≡ z 0 → ((p : ℕ) → p < l → Empty ≡ z (suc p)) → ((p : ℕ) → p < r → y (suc p) ≡ z (suc (l + p)))
       → (p : ℕ) → p < suc (l + r) → row_token l held Right p ≡ z p
@@ -91,5 +93,6 @@ module _ (l r : ℕ) (held : List Token) (x y z : ℕ → Token) (h : Holds l r 
       let a : l + 1 ≡ suc l + 0 = omega arith in
       ap (λ (n : ℕ). get_or held n Empty) a ∙ h.right 0 (omega arith) ∙ e
   row-right e f g (suc p) b = elim (cases_lt l (suc p)) [
-      inl c ↦ rw (le_false (suc p) l c) (right-held (suc p) b c ∙ g (suc p - suc l) (omega arith) ∙ ap z (sym (place l (suc p) c)))
-    | inr c ↦ rw (le_true (suc p) l c) (f p (omega arith)) ]
+    | inl c ↦ rw (le_false (suc p) l c) (right-held (suc p) b c ∙ g (suc p - suc l) (omega arith) ∙ ap z (sym (place l (suc p) c)))
+    | inr c ↦ rw (le_true (suc p) l c) (f p (omega arith))
+  ]

@@ -169,6 +169,8 @@ impl Merger {
     pub fn took(&mut self, t: Token)
         requires within { IsWithin self.old }
         ensures steps { self.new ≡ merge_steps.took self.old t }
+        ensures left { self.new.left ≡ self.old.left }
+        ensures right { self.new.right ≡ self.old.right }
         ensures within { IsWithin self.new }
     {
         if let Stage::Taking(heads, port) = self.stage {
@@ -185,6 +187,8 @@ impl Merger {
     pub fn put(&mut self)
         requires within { IsWithin self.old }
         ensures steps { self.new ≡ merge_steps.put self.old }
+        ensures left { self.new.left ≡ self.old.left }
+        ensures right { self.new.right ≡ self.old.right }
         ensures within { IsWithin self.new }
     {
         if let Stage::Putting(heads, port) = self.stage {
