@@ -1,5 +1,5 @@
 -- A merger takes heads, chooses, and puts the row of a choice.
-use Rattle.std.proofs.Common.{◌≡◌, ◌∙◌, ℕ, zero, suc, ◌+◌, ◌<◌, ◌≤◌, Bool, true, false, List, [], ◌∷◌, length, get_or, refl, sym, ap, subst, arith}
+use Rattle.std.proofs.Common.{◌≡◌, ◌∙◌, ℕ, suc, ◌+◌, ◌<◌, ◌≤◌, Bool, true, false, List, length, get_or, refl, sym, ap, subst, arith}
 use Rattle.stream_tokens.specs.declared.Token.{Token}
 use Rattle.stream_tokens.specs.declared.Token.TheVariants.{Empty}
 use Rattle.block_core.specs.Move.{Move, over, take_row, put_row}
@@ -8,7 +8,7 @@ use Rattle.block_core.specs.Runs.{Runs}
 use Rattle.merge_blocks.specs.declared.merger.Heads.{Heads}
 use Rattle.merge_blocks.specs.declared.merger.Heads.TheVariants.{Left, Right, Both}
 use Rattle.merge_blocks.specs.declared.merger.Stage.{Stage}
-use Rattle.merge_blocks.specs.declared.merger.Stage.TheVariants.{Taking, Putting}
+use Rattle.merge_blocks.specs.declared.merger.Stage.TheVariants.{Taking}
 use Rattle.merge_blocks.specs.MergeSteps.{first_port, row_token, sooner, chosen, choice, alone, after_both, after_row, merge_steps}
 use Rattle.merge_blocks.proofs.Rows.{at, kept, kept-length, kept-below, kept-above, kept-from, length-over, take_last, take_part, put_whole}
 use Rattle.merge_blocks.proofs.Tokens.{Holds, row-both, row-left, row-right}

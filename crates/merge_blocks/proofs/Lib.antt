@@ -3,3 +3,4 @@ pub mod Tokens
 pub mod Heads
 pub mod MergeRuns
 pub mod MergeStands
+pub mod Twos

@@ -1,5 +1,5 @@
 -- A block over a merger stands where the merger's steps say.
-use Rattle.std.proofs.Common.{◌≡◌, ℕ, ◌+◌, ◌≤◌, Bool, true, false, Some, replicate, refl, sym, subst}
+use Rattle.std.proofs.Common.{◌≡◌, ℕ, ◌+◌, ◌≤◌, true, false, Some, replicate, refl, sym, subst}
 use Rattle.std.specs.Prelude.{slice_get}
 use Rattle.stream_tokens.specs.declared.Token.{Token}
 use Rattle.stream_tokens.specs.declared.Token.TheVariants.{Empty}
@@ -21,22 +21,22 @@ pub meet_starts : (l r : ℕ) (m : Merger) → l + r ≤ 8 → m ≡ new_merger 
     → (s : Streams) → Fits (IntersectKind l r) s → Sits IntersectKind m s 0
 meet_starts l r m few e s f =
     subst (λ (x : Merger). Sits IntersectKind x s 0) (sym e)
-        (stands_start merge_steps (new_merger false l r) (IntersectKind l r) s f
-            (merge_run false l r few (reading (IntersectKind l r) s) (replicate 10 Empty) refl))
+    (stands_start merge_steps (new_merger false l r) (IntersectKind l r) s f
+    (merge_run false l r few (reading (IntersectKind l r) s) (replicate 10 Empty) refl))
 
 pub unite_starts : (l r : ℕ) (m : Merger) → l + r ≤ 8 → m ≡ new_merger true l r
     → (s : Streams) → Fits (UnionKind l r) s → Sits UnionKind m s 0
 unite_starts l r m few e s f =
     subst (λ (x : Merger). Sits UnionKind x s 0) (sym e)
-        (stands_start merge_steps (new_merger true l r) (UnionKind l r) s f
-            (merge_run true l r few (reading (UnionKind l r) s) (replicate 10 Empty) refl))
+    (stands_start merge_steps (new_merger true l r) (UnionKind l r) s f
+    (merge_run true l r few (reading (UnionKind l r) s) (replicate 10 Empty) refl))
 
 -- the sides stay as wide
 same_sides : (kind : ℕ → ℕ → Kind) (m m' : Merger) (s : Streams) (n : ℕ) → m'.left ≡ m.left → m'.right ≡ m.right
     → Stands (Runs merge_steps m') (kind m.left m.right) s n → Sits kind m' s n
 same_sides kind m m' s n a b h =
     subst (λ (l : ℕ). Stands (Runs merge_steps m') (kind l m'.right) s n) (sym a)
-        (subst (λ (r : ℕ). Stands (Runs merge_steps m') (kind m.left r) s n) (sym b) h)
+    (subst (λ (r : ℕ). Stands (Runs merge_steps m') (kind m.left r) s n) (sym b) h)
 
 pub sits_take : (kind : ℕ → ℕ → Kind) (m m' : Merger) (s : Streams) (n port : ℕ) (t : Token)
     → m' ≡ merge_steps.took m t → m'.left ≡ m.left → m'.right ≡ m.right

@@ -1,10 +1,10 @@
 -- A merger takes whole heads and puts whole rows.
-use Rattle.std.proofs.Common.{◌≡◌, ◌≢◌, ◌∙◌, ℕ, zero, suc, ◌+◌, ◌<◌, ◌≤◌, Bool, true, false, List, [], ◌∷◌, length, get_or, set, refl, sym, ap, subst, arith, add-one, nat_lt, get_or-set_same, get_or-set_other}
+use Rattle.std.proofs.Common.{◌≡◌, ◌∙◌, ℕ, zero, suc, ◌+◌, ◌<◌, ◌≤◌, Bool, true, false, List, [], ◌∷◌, length, get_or, set, refl, sym, ap, subst, arith, nat_lt, get_or-set_same, get_or-set_other}
 use Rattle.std.proofs.lemmas.Bool.Decides.{nat_tests}
 use Rattle.std.proofs.Math.ListN.{length-set}
 use Rattle.stream_tokens.specs.declared.Token.{Token}
 use Rattle.stream_tokens.specs.declared.Token.TheVariants.{Empty}
-use Rattle.block_core.specs.Move.{Move, over, across, take_row, put_row}
+use Rattle.block_core.specs.Move.{Move, over, take_row, put_row}
 use Rattle.block_core.specs.Runs.{Runs}
 use Rattle.merge_blocks.specs.declared.merger.Heads.{Heads}
 use Rattle.merge_blocks.specs.declared.merger.Stage.{Stage}

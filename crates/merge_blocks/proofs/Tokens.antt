@@ -1,10 +1,10 @@
 -- The tokens of rows: of the next heads, and of what is put for them.
-use Rattle.std.proofs.Common.{◌≡◌, ◌∙◌, ℕ, zero, suc, pred, ◌+◌, ◌-◌, ◌<◌, ◌≤◌, ◌⊎◌, inl, inr, Bool, true, false, List, [], ◌∷◌, ◌++◌, None, length, get_or, nat_lt, nat_le, refl, sym, ap, arith}
+use Rattle.std.proofs.Common.{◌≡◌, ◌∙◌, ℕ, zero, suc, pred, ◌+◌, ◌-◌, ◌<◌, ◌≤◌, inl, inr, true, false, List, [], ◌∷◌, ◌++◌, None, length, get_or, nat_le, refl, sym, ap, arith}
 use Rattle.std.proofs.lemmas.Bool.{cases_lt}
 use Rattle.std.proofs.lemmas.Bool.Decides.{nat_tests}
 use Rattle.std.proofs.lemmas.List.{get_or_append_left, get_or-append-add}
 use Rattle.stream_tokens.specs.declared.Token.{Token}
-use Rattle.stream_tokens.specs.declared.Token.TheVariants.{Item, Empty, Stop}
+use Rattle.stream_tokens.specs.declared.Token.TheVariants.{Empty, Stop}
 use Rattle.stream_tokens.specs.Nest.{Leaf, leaf}
 use Rattle.block_core.specs.Move.{over}
 use Rattle.block_core.specs.Merge.{Head, head_token, head_of, padded, next_row}

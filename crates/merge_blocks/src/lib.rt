@@ -10,3 +10,6 @@ mod unite;
 
 pub use intersect::Intersecter;
 pub use unite::Unioner;
+
+#[cfg(test)]
+mod tests;

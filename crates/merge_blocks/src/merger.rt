@@ -38,18 +38,21 @@ pub struct Merger {
     tokens: [Token; PORTS],
 }
 
-/// Which heads come next, by the tokens at the two coordinate ports: those with the smaller coordinate, or both.
-#[inline]
-fn sooner_heads(left: Token, right: Token) -> Heads
-    ensures { result ≡ sooner left right }
-{
-    match (left, right) {
-        (Token::Item(a), Token::Item(b)) if a < b => Heads::Left,
-        (Token::Item(a), Token::Item(b)) if b < a => Heads::Right,
-        (Token::Item(_), Token::Item(_)) => Heads::Both,
-        (Token::Item(_), _) => Heads::Left,
-        (_, Token::Item(_)) => Heads::Right,
-        _ => Heads::Both,
+impl Heads {
+    /// The heads that come next, by the tokens at the two coordinate ports: those with the smaller coordinate, or both.
+    /// A side that stands at an end comes after all coordinates.
+    #[inline]
+    fn sooner(left: Token, right: Token) -> Heads
+        ensures { result ≡ sooner left right }
+    {
+        match (left, right) {
+            (Token::Item(a), Token::Item(b)) if a < b => Heads::Left,
+            (Token::Item(a), Token::Item(b)) if b < a => Heads::Right,
+            (Token::Item(_), Token::Item(_)) => Heads::Both,
+            (Token::Item(_), _) => Heads::Left,
+            (_, Token::Item(_)) => Heads::Right,
+            _ => Heads::Both,
+        }
     }
 }
 
@@ -133,7 +136,7 @@ impl Merger {
         requires payloads { self.now.left + self.now.right ≤ 8 }
         ensures { result ≡ chosen self.now.unites self.now.left self.now.tokens }
     {
-        let heads = sooner_heads(self.tokens[0], self.tokens[self.left as usize + 1]);
+        let heads = Heads::sooner(self.tokens[0], self.tokens[self.left as usize + 1]);
         match heads {
             Heads::Both => Stage::Putting(heads, 0),
             _ if self.unites => Stage::Putting(heads, 0),
@@ -143,13 +146,13 @@ impl Merger {
 
     /// What follows once the row of these heads was put: they are taken anew, unless the streams ended.
     #[inline]
-    fn after_row(&self, heads: Heads) -> Stage
+    fn after_row(&self, row: Heads) -> Stage
         requires payloads { self.now.left + self.now.right ≤ 8 }
-        ensures { result ≡ after_row self.now.left self.now.tokens heads }
+        ensures { result ≡ after_row self.now.left self.now.tokens row }
     {
-        match (heads, self.tokens[0]) {
+        match (row, self.tokens[0]) {
             (Heads::Both, Token::Done) => Stage::Ended,
-            _ => Stage::Taking(heads, self.first(heads)),
+            _ => Stage::Taking(row, self.first(row)),
         }
     }
 
