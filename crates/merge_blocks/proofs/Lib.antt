@@ -1,0 +1,6 @@
+pub mod Rows
+pub mod Tokens
+pub mod Heads
+pub mod MergeRuns
+pub mod MergeStands
+pub mod Twos

@@ -1,0 +1,76 @@
+//! The block that keeps the coordinates that both sides have.
+
+ghost use Rattle.std.specs.Prelude.{◌≡◌, ℕ, ◌+◌, ◌≤◌, false};
+ghost use Rattle.block_core.specs.Ports.{Streams};
+ghost use Rattle.block_core.specs.Kind.{IntersectKind, Fits, moves};
+ghost use Rattle.block_core.specs.Stands.{Stands};
+ghost use Rattle.block_core.specs.Runs.{Runs};
+ghost use Rattle.block_core.proofs.Unique.{same_wish};
+ghost use Rattle.merge_blocks.specs.MergeSteps.{IsWithin, merge_steps};
+
+use crate::merger::Merger;
+use block_core::{BlockStep, Wish};
+use std::alloc::AllocError;
+use stream_tokens::Token;
+
+/// The intersecter: each fiber keeps the coordinates that both sides have, with the payloads of both.
+///
+/// Its inputs are the left coordinates and payloads, then the right; its outputs are the coordinates, the left payloads
+/// and the right payloads.
+#[derive(Clone, Copy)]
+pub struct Intersecter {
+    merger: Merger,
+    ghost within: { IsWithin merger },
+}
+
+impl Intersecter {
+    /// An intersecter of sides with so many payloads, at most eight together.
+    pub fn new(left: u32, right: u32) -> Intersecter
+        requires payloads { left + right ≤ 8 }
+        ensures same_kind { ⟦<Intersecter as BlockStep>⟧.kind result ≡ IntersectKind left right }
+        ensures sure { ⟦<Intersecter as BlockStep>⟧.may_refuse result ≡ false }
+        ensures starts { (s : Streams) → Fits (IntersectKind left right) s → ⟦<Intersecter as BlockStep>⟧.stands result s 0 }
+    {
+        Intersecter {
+            merger: Merger::new(false, left, right),
+        }
+    }
+}
+
+impl BlockStep for Intersecter {
+    ghost kind = { λ b. IntersectKind b.merger.left b.merger.right };
+
+    ghost may_refuse = { λ _. false };
+
+    ghost stands = { λ b. Stands (Runs merge_steps b.merger) (IntersectKind b.merger.left b.merger.right) };
+
+    fn ins(&self) -> u32 {
+        self.merger.ins()
+    }
+
+    fn outs(&self) -> u32 {
+        self.merger.outs()
+    }
+
+    #[inline]
+    fn wish(&self) -> Wish {
+        self.merger.wants()
+    }
+
+    #[inline]
+    fn take(&mut self, _port: u32, t: Token) -> Result<(), AllocError> {
+        self.merger.took(t);
+        Ok(())
+    }
+
+    #[inline]
+    fn did_put(&mut self) {
+        self.merger.put();
+    }
+
+    ghost stands_fits = { λ b s n h. h.fits };
+
+    ghost stands_within = { λ b s n h. h.within };
+
+    ghost agrees = { λ b s r n h k a. same_wish _ _ n (moves (IntersectKind b.merger.left b.merger.right) s) (moves (IntersectKind b.merger.left b.merger.right) r) h.rest k.rest a };
+}
