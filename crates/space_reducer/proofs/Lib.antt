@@ -1,3 +1,5 @@
 mod Changed
 mod Ordered
 mod Added
+mod Folds
+mod VectorRuns

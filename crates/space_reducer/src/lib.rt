@@ -4,3 +4,6 @@
 #![tactic(auto)]
 
 mod sums;
+mod vector;
+
+pub use vector::VectorReducer;
