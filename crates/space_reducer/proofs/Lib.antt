@@ -1,0 +1,5 @@
+mod Changed
+mod Ordered
+mod Added
+mod Folds
+mod VectorRuns

@@ -1,0 +1,2 @@
+pub mod ValueOf
+pub mod VectorSteps

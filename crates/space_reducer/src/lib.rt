@@ -1,0 +1,9 @@
+//! The blocks that sum over a loop which has result loops inside it: the vector and the matrix reducer.
+//!
+//! Both keep coordinates with sums in ordered maps, so that what they put ascends.
+#![tactic(auto)]
+
+mod sums;
+mod vector;
+
+pub use vector::VectorReducer;
