@@ -1,0 +1,3 @@
+pub mod WriterRuns
+pub mod LevelRuns
+pub mod Worked

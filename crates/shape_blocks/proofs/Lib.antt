@@ -1,0 +1,2 @@
+pub mod DropValueRuns
+pub mod DropFiberRuns

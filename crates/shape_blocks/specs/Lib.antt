@@ -1,0 +1,2 @@
+pub mod DropValueSteps
+pub mod DropFiberSteps
