@@ -3,6 +3,8 @@
 
 mod faults;
 mod lists;
+#[cfg(test)]
+mod tests;
 mod texts;
 
 pub use faults::{Fault, NoteKind, ProgramKind, TnsKind, Waiting, status};
