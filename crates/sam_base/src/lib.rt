@@ -3,8 +3,6 @@
 
 mod faults;
 mod lists;
-#[cfg(test)]
-mod tests;
 mod texts;
 
 pub use faults::{Fault, NoteKind, ProgramKind, TnsKind, Waiting, status};

@@ -1,5 +1,6 @@
 //! The commands: their words, their answers and what they write.
 #![tactic(auto)]
 
+mod form;
 mod lists;
 mod product;
