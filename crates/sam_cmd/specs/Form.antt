@@ -10,6 +10,7 @@ use Rattle.sam_text.specs.declared.numbers.NumFault.{NumFault}
 use Rattle.sam_model.specs.declared.tensors.Format.TheVariants.{Compressed}
 use Rattle.sam_model.specs.declared.tensors.Tensor.{Tensor}
 use Rattle.sam_model.specs.declared.program.Factor.TheVariants.{Access}
+use Rattle.sam_model.specs.declared.program.Term.{Term}
 use Rattle.sam_model.specs.declared.program.Program.{Program}
 
 -- what follows a beginning
@@ -58,8 +59,19 @@ dimension [] = None
 dimension (b ∷ bs) = cond (eqb b 48) None (number_in_range (number_at 0 (b ∷ bs)))
 
 -- the three lines after the tensors, for a size
-abbrev pub ending : List ℕ → List ℕ
-ending size = codes "result x " ++ size ++ codes " c 1\ncompute x(i) = b(i) * c(i)\nloops i\n"
+abbrev pub closing : List ℕ
+closing = codes " c 1\ncompute x(i) = b(i) * c(i)\nloops i\n"
+
+abbrev pub closes : Option (List ℕ) → Bool
+closes None = false
+closes (Some rest) = pointwise nat_eq rest closing
+
+abbrev pub sized : List ℕ → Option (List ℕ) → Bool
+sized size None = false
+sized size (Some rest) = closes (after size rest)
+
+abbrev pub is_ending : List ℕ → List ℕ → Bool
+is_ending size text = sized size (after (codes "result x ") text)
 
 -- two vectors of one size, with their files
 pub record TwoVectors : Type 0 where
@@ -70,7 +82,7 @@ pub record TwoVectors : Type 0 where
 abbrev pub vectors_of : Declared → Declared → Option ℕ → Option TwoVectors
 vectors_of b c None = None
 vectors_of b c (Some n) =
-    cond (pointwise nat_eq c.size b.size && pointwise nat_eq c.rest (ending b.size)) (Some (record { size = n; left = b.file; right = c.file })) None
+    cond (pointwise nat_eq c.size b.size && is_ending b.size c.rest) (Some (record { size = n; left = b.file; right = c.file })) None
 
 abbrev pub second_of : Declared → Option Declared → Option TwoVectors
 second_of b None = None
@@ -94,12 +106,15 @@ vector_named name n file = record {
   file = file;
 }
 
+abbrev pub both_factors : Term
+both_factors = record { minus = false; factors = Access 0 (0 ∷ []) ∷ Access 1 (0 ∷ []) ∷ [] }
+
 abbrev pub program_of : TwoVectors → Program
 program_of v = record {
   tensors = vector_named (codes "b") v.size v.left ∷ vector_named (codes "c") v.size v.right ∷ [];
   result = vector_named (codes "x") v.size [];
   left = 0 ∷ [];
-  terms = record { minus = false; factors = Access 0 (0 ∷ []) ∷ Access 1 (0 ∷ []) ∷ [] } ∷ [];
+  terms = both_factors ∷ [];
   var_names = codes "i" ∷ [];
   var_sizes = v.size ∷ [];
 }
