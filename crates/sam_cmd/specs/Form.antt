@@ -1,5 +1,5 @@
 -- The one program form that `step` reads: the product of two compressed vectors.
-use Rattle.std.specs.Prelude.{ℕ, Bool, true, false, ◌&&◌, cond, List, [], ◌∷◌, ◌++◌, codes, drop, take, length, nat_eq, eqb, leb, Option, Some, None, Result, Ok, Err}
+use Rattle.std.specs.Prelude.{◌≡◌, ◌≤◌, ℕ, Bool, true, false, ◌&&◌, cond, List, [], ◌∷◌, ◌++◌, codes, drop, take, length, nat_eq, eqb, leb, Option, Some, None, Result, Ok, Err}
 use Rattle.std.specs.List.{prefix_len, starts_with}
 use Rattle.std.specs.Cmp.Lexicographic.{pointwise}
 use Rattle.sam_base.specs.declared.TheConstants.{DIMENSION_MOST}
@@ -118,3 +118,11 @@ program_of v = record {
   var_names = codes "i" ∷ [];
   var_sizes = v.size ∷ [];
 }
+
+-- the program that this text spells
+pub record IsSpelled (text : List ℕ) (p : Program) : Type 0 where
+  pub vectors : TwoVectors
+  pub is_form : form_of text ≡ Some vectors
+  pub is_program : p ≡ program_of vectors
+  pub least : 1 ≤ vectors.size
+  pub most : vectors.size ≤ DIMENSION_MOST

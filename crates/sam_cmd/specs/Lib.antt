@@ -1,4 +1,6 @@
+pub mod Answers
 pub mod Form
 pub mod Lists
 pub mod Next
 pub mod Product
+pub mod Steps

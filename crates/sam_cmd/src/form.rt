@@ -1,8 +1,8 @@
 //! The reader of the one program form that `step` serves: the product of two compressed vectors.
 
-ghost use Rattle.std.specs.Prelude.{◌≡◌, ◌≤◌, [], ◌∷◌, length, codes, option_map, IfOk, IfNone, IfSome, MatchOption, Some, None};
+ghost use Rattle.std.specs.Prelude.{◌≡◌, ◌≤◌, [], ◌∷◌, length, codes, IfOk, IfNone, IfSome, MatchOption, Some, None};
 ghost use Rattle.sam_text.specs.Bytes.{is_digit as digit_byte};
-ghost use Rattle.sam_cmd.specs.Form.{after as after_lead, dimension as dimension_of, is_ending as ending, form_of, is_file_byte as file_byte, past_run, run_of, tensor_line as line_of, vector_named, both_factors, program_of};
+ghost use Rattle.sam_cmd.specs.Form.{after as after_lead, dimension as dimension_of, is_ending as ending, form_of, is_file_byte as file_byte, past_run, run_of, tensor_line as line_of, vector_named, both_factors, program_of, IsSpelled};
 ghost use Rattle.std.specs.List.{prefix_len};
 
 use sam_base::{DIMENSION_MOST, Items, Name, Nums};
@@ -54,7 +54,9 @@ fn file_length(text: &[u8]) -> usize
 
 /// The dimension that digits spell, without leading zeros.
 fn dimension(digits: &[u8]) -> Option<u64>
-    ensures { result ≡ dimension_of digits.now }
+    ensures value { result ≡ dimension_of digits.now }
+    ensures least { IfSome result (λ n. 1 ≤ n) }
+    ensures most { IfSome result (λ n. n ≤ DIMENSION_MOST) }
 {
     if digits.is_empty() || digits[0] == b'0' {
         return None;
@@ -117,6 +119,8 @@ fn two_vectors<'a>(text: &'a [u8]) -> Option<TwoVectors<'a>>
         IfSome result
             (λ v. form_of text.now ≡ Some (record { size = v.size; left = v.left.now; right = v.right.now }))
     }
+    ensures least { IfSome result (λ v. 1 ≤ v.size) }
+    ensures most { IfSome result (λ v. v.size ≤ DIMENSION_MOST) }
 {
     let b = tensor_line(b"tensor b ".as_slice(), text)?;
     let c = tensor_line(b"tensor c ".as_slice(), b.rest)?;
@@ -200,7 +204,8 @@ fn product_of(alloc: Global, vectors: &TwoVectors) -> Result<Program, AllocError
 
 /// The program that a text of the form spells, or None where it isn't of the form.
 pub fn read_form(alloc: Global, text: &[u8]) -> Result<Option<Program>, AllocError>
-    ensures { IfOk result (λ program. program ≡ option_map program_of (form_of text.now)) }
+    ensures none { IfOk result (λ program. IfNone program (form_of text.now ≡ None)) }
+    ensures some { IfOk result (λ program. IfSome program (IsSpelled text.now)) }
 {
     match two_vectors(text) {
         None => Ok(None),

@@ -1,0 +1,52 @@
+-- What each step of a command gives, and how it fails.
+use Rattle.std.specs.Prelude.{◌≡◌, ◌⊎◌, ◌≤◌, ℕ, List, Option, Some, None, length}
+use Rattle.sam_base.specs.declared.faults.Fault.{Fault}
+use Rattle.sam_base.specs.declared.faults.Fault.TheVariants.{Usage, Missing, ReadFault, Program, Schedule, TooManyBlocks, NoSuchChannel, Tensor, Stalled, WriteFault, OutOfMemory, NotBuilt}
+use Rattle.sam_base.specs.declared.TheConstants.{FILE_MOST, DIMENSION_MOST}
+use Rattle.sam_base.specs.Causes.{Rose}
+use Rattle.sam_io.specs.Outside.{Told, Lacks, Tells, LongerThan}
+use Rattle.sam_model.specs.declared.tensors.Tensor.{Tensor as TensorType}
+use Rattle.sam_model.specs.declared.tensors.Entries.{Entries}
+use Rattle.sam_model.specs.declared.program.Program.{Program as ProgramType}
+use Rattle.sam_model.specs.Tensors.{stored_as}
+use Rattle.sam_model.specs.Children.{Ranked, ranked}
+use Rattle.sam_cmd.specs.Form.{TwoVectors, form_of, program_of}
+use Rattle.sam_cmd.specs.Answers.{FilesSpan, ReadsProgram, ReadsTensor, RefusesTensor}
+
+-- a file's text, or that it is too long
+abbrev pub GivesText : Option Told → List ℕ → Option (List ℕ) → Type 0
+GivesText told name None = LongerThan told name FILE_MOST
+GivesText told name (Some text) = Tells told name text × (length text ≤ FILE_MOST)
+
+-- a file isn't there, or could not be read
+abbrev pub FileFault : FilesSpan → List ℕ → Fault → Type 0
+FileFault files name (Missing missed) = (missed ≡ name) × Rose files.misses_before files.misses_now × Lacks files.told name
+FileFault files name (ReadFault failed) = (failed ≡ name) × Rose files.faults_before files.faults_now
+FileFault files name OutOfMemory = Unit {0}
+FileFault files name _ = ⊥
+
+-- the program that a file's text spells
+pub record GivesProgram (told : Option Told) (name : List ℕ) (p : ProgramType) : Type 0 where
+  pub vectors : TwoVectors
+  pub reads : ReadsProgram told name vectors
+  pub is_program : p ≡ program_of vectors
+  pub least : 1 ≤ vectors.size
+  pub most : vectors.size ≤ DIMENSION_MOST
+
+-- the file's text isn't of the form
+abbrev pub IsNoForm : Option Told → List ℕ → Type 0
+IsNoForm told name = ((bytes : List ℕ) × Tells told name bytes × (form_of bytes ≡ None)) ⊎ LongerThan told name FILE_MOST
+
+abbrev pub ProgramFault : FilesSpan → List ℕ → Fault → Type 0
+ProgramFault files name NotBuilt = IsNoForm files.told name
+ProgramFault files name fault = FileFault files name fault
+
+-- a tensor as it is stored
+pub record GivesStorage (told : Option Told) (t : TensorType) (s : Ranked) : Type 0 where
+  pub entries : Entries
+  pub reads : ReadsTensor told t entries
+  pub is_stored : s ≡ ranked (stored_as t entries)
+
+abbrev pub TensorFault : FilesSpan → TensorType → Fault → Type 0
+TensorFault files t (Tensor name kind line) = (name ≡ t.file) × RefusesTensor files.told t kind line
+TensorFault files t fault = FileFault files t.file fault

@@ -1,0 +1,112 @@
+//! What a command answers: its text, or why there is none.
+
+ghost use Rattle.std.specs.Prelude.{◌≡◌, ◌≤◌, ◌⊎◌, ℕ, length, map, string_bytes, Some, None, IfOk, IfErr, IfNone, IfSome};
+ghost use Rattle.sam_base.specs.declared.TheConstants.{DIMENSION_MOST};
+ghost use Rattle.sam_cmd.specs.Answers.{program_named as named, Comes};
+ghost use Rattle.sam_cmd.specs.Steps.{GivesText, FileFault, GivesProgram, ProgramFault, GivesStorage, TensorFault};
+ghost use Rattle.sam_cmd.specs.Form.{vector_named};
+
+use crate::form::read_form;
+use crate::product::product;
+use levels::{BuildFault, Storage};
+use sam_base::{Fault, Name, TnsKind};
+use sam_io::{Files, ReadEnd, read_whole};
+use sam_model::{Program, Tensor};
+use std::alloc::Global;
+use tns_io::{TnsFault, read_tns, result_text};
+
+/// The program file that the words name.
+fn program_named(words: &[String]) -> Option<&String>
+    ensures none { IfNone result (named (map string_bytes words.now) ≡ None) }
+    ensures some { IfSome result (λ name. named (map string_bytes words.now) ≡ Some (string_bytes name.now)) }
+{
+    if words.len() == 2 && words[0].as_bytes() == b"step".as_slice() {
+        Some(&words[1])
+    } else {
+        None
+    }
+}
+
+fn missing(alloc: Global, name: &Name) -> Fault
+    ensures { (result ≡ Fault.Missing name.now) ⊎ (result ≡ Fault.OutOfMemory) }
+{
+    match Name::from_slice(alloc, name.as_bytes()) {
+        Ok(name) => Fault::Missing(name),
+        Err(_) => Fault::OutOfMemory,
+    }
+}
+
+fn read_fault(alloc: Global, name: &Name) -> Fault
+    ensures { (result ≡ Fault.ReadFault name.now) ⊎ (result ≡ Fault.OutOfMemory) }
+{
+    match Name::from_slice(alloc, name.as_bytes()) {
+        Ok(name) => Fault::ReadFault(name),
+        Err(_) => Fault::OutOfMemory,
+    }
+}
+
+fn refused(alloc: Global, name: &Name, kind: TnsKind, line: u32) -> Fault
+    ensures { (result ≡ Fault.Tensor name.now kind line) ⊎ (result ≡ Fault.OutOfMemory) }
+{
+    match Name::from_slice(alloc, name.as_bytes()) {
+        Ok(name) => Fault::Tensor { name, kind, line },
+        Err(_) => Fault::OutOfMemory,
+    }
+}
+
+/// The text of a file, or None where it is too long.
+fn text<F: Files>(alloc: Global, files: &mut F, name: &Name) -> Result<Option<Name>, Fault>
+    ensures same { F.told files.new ≡ F.told files.old }
+    ensures faults { F.faults files.old ≤ F.faults files.new }
+    ensures misses { F.misses files.old ≤ F.misses files.new }
+    ensures ok { IfOk result (GivesText (F.told files.old) name.now) }
+    ensures err {
+        IfErr result
+            (FileFault
+                (record {
+                    told = F.told files.old;
+                    faults_before = F.faults files.old;
+                    faults_now = F.faults files.new;
+                    misses_before = F.misses files.old;
+                    misses_now = F.misses files.new
+                })
+                name.now)
+    }
+{
+    match read_whole(alloc, files, name) {
+        Ok(text) => Ok(Some(text)),
+        Err(ReadEnd::TooLong) => Ok(None),
+        Err(ReadEnd::Missing) => Err(missing(alloc, name)),
+        Err(ReadEnd::Failed) => Err(read_fault(alloc, name)),
+        Err(ReadEnd::OutOfMemory) => Err(Fault::OutOfMemory),
+    }
+}
+
+/// Reads the program file.
+fn program<F: Files>(alloc: Global, files: &mut F, name: &Name) -> Result<Program, Fault>
+    ensures same { F.told files.new ≡ F.told files.old }
+    ensures faults { F.faults files.old ≤ F.faults files.new }
+    ensures misses { F.misses files.old ≤ F.misses files.new }
+    ensures ok { IfOk result (GivesProgram (F.told files.old) name.now) }
+    ensures err {
+        IfErr result
+            (ProgramFault
+                (record {
+                    told = F.told files.old;
+                    faults_before = F.faults files.old;
+                    faults_now = F.faults files.new;
+                    misses_before = F.misses files.old;
+                    misses_now = F.misses files.new
+                })
+                name.now)
+    }
+{
+    match text(alloc, files, name)? {
+        None => Err(Fault::NotBuilt),
+        Some(text) => match read_form(alloc, text.as_bytes()) {
+            Ok(Some(program)) => Ok(program),
+            Ok(None) => Err(Fault::NotBuilt),
+            Err(_) => Err(Fault::OutOfMemory),
+        },
+    }
+}
