@@ -1,2 +1,4 @@
 mod Rows
 mod Worked
+mod WorkedListing
+pub mod OneLevel

@@ -2,4 +2,5 @@ pub mod Lists
 pub mod Tensors
 pub mod Denote
 pub mod ResultText
+pub mod Listing
 pub mod Children

@@ -1,0 +1,4 @@
+pub mod ValueLemmas
+pub mod FieldLemmas
+pub mod EntryLemmas
+mod Worked

@@ -1,0 +1,54 @@
+//! Why a tensor file is not read.
+
+ghost use Rattle.std.specs.Prelude.{◌≡◌};
+ghost use Rattle.tns_io.specs.declared.faults.LineFault.TheVariants as line;
+ghost use Rattle.tns_io.specs.Answers.{at_line};
+
+use sam_base::TnsKind;
+use std::alloc::AllocError;
+use thiserror::Error;
+
+/// Why a tensor file is not read.
+#[derive(Debug, Drop, Error)]
+pub enum TnsFault {
+    /// The first bad line, counted from 1, and what is wrong there.
+    #[error("line {line} of the tensor file is refused")]
+    Refused { kind: TnsKind, line: u32 },
+    #[error("there is no memory for the entries")]
+    OutOfMemory,
+}
+
+/// Why a line is not read.
+#[derive(Debug, Drop)]
+pub enum LineFault {
+    Refused(TnsKind),
+    OutOfMemory,
+}
+
+impl LineFault {
+    /// The fault of the file, where this is the number of the line.
+    pub fn at(self, line: u32) -> TnsFault
+        ensures { result ≡ at_line self line }
+    {
+        match self {
+            LineFault::Refused(kind) => TnsFault::Refused { kind, line },
+            LineFault::OutOfMemory => TnsFault::OutOfMemory,
+        }
+    }
+}
+
+impl From<TnsKind> for LineFault {
+    ghost from_gives = { λ kind fault. fault ≡ line.Refused kind };
+
+    fn from(kind: TnsKind) -> LineFault {
+        LineFault::Refused(kind)
+    }
+}
+
+impl From<AllocError> for LineFault {
+    ghost from_gives = { λ _ fault. fault ≡ line.OutOfMemory };
+
+    fn from(_e: AllocError) -> LineFault {
+        LineFault::OutOfMemory
+    }
+}

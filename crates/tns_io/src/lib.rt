@@ -1,0 +1,10 @@
+//! Tensor files in, results out: reads the entries of a `.tns` file, and writes the text of a result.
+#![tactic(auto)]
+
+mod entries;
+mod faults;
+mod fields;
+mod values;
+
+pub use entries::read_tns;
+pub use faults::TnsFault;
