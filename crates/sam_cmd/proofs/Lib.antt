@@ -1,3 +1,4 @@
+pub mod Denoted
 pub mod OneFiber
 pub mod Reading
 pub mod SharedFacts

@@ -13,7 +13,8 @@ use Rattle.block_core.specs.Change.{value_at as value_of_rank}
 use Rattle.levels.specs.Reads.{fiber_at}
 use Rattle.block_core.specs.Written.{items_in}
 use Rattle.sam_cmd.specs.Lists.{first, second, fiber_tokens, present}
-use Rattle.sam_cmd.specs.Product.{IsVector, coordinate_tokens, reference_tokens, value_tokens, shared_by, kept_by, one_level, product_written}
+use Rattle.sam_cmd.specs.Product.{IsVector, coordinate_tokens, reference_tokens, value_tokens, shared_by, kept_by, product_written}
+use Rattle.sam_model.proofs.OneLevel.{one_level}
 use Rattle.sam_cmd.proofs.OneFiber.{shared_fiber, share-ranges, array-fiber, products-fiber, present-fiber, items-fiber}
 
 -- a coordinate as a prefix of one

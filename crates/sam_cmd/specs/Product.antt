@@ -6,6 +6,7 @@ use Rattle.stream_tokens.specs.Shapes.{Each}
 use Rattle.block_core.specs.Change.{on_item, value_at}
 use Rattle.block_core.specs.Written.{items_in}
 use Rattle.sam_model.specs.Children.{Ranked}
+use Rattle.sam_model.proofs.OneLevel.{one_level}
 use Rattle.sam_model.specs.declared.tensors.Written.{Written}
 use Rattle.levels.specs.Reads.{children_at, fiber_at}
 use Rattle.sam_cmd.specs.Lists.{first, second, fiber_tokens, Shared, share, products, Pairs, present}
@@ -31,13 +32,6 @@ abbrev pub kept_by : Ranked → Ranked → Pairs
 kept_by a b =
     let shared = shared_by a b in
     present shared.coordinates (products (value_tokens a shared.left) (value_tokens b shared.right))
-
-abbrev pub one_level : List ℕ → List ℕ → Written
-one_level coordinates values = record {
-  segs = (0 ∷ length coordinates ∷ []) ∷ [];
-  crds = coordinates ∷ [];
-  vals = values;
-}
 
 abbrev pub product_written : Ranked → Ranked → Written
 product_written a b = one_level (items_in (kept_by a b).0) (items_in (kept_by a b).1)

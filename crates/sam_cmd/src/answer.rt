@@ -13,7 +13,7 @@ use sam_base::{Fault, Name, TnsKind};
 use sam_io::{Files, ReadEnd, read_whole};
 use sam_model::{Program, Tensor};
 use std::alloc::Global;
-use tns_io::{TnsFault, read_tns, result_text};
+use tns_io::{TnsFault, read_tns};
 
 /// The program file that the words name.
 fn program_named(words: &[String]) -> Option<&String>

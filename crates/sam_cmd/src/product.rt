@@ -5,7 +5,8 @@ ghost use Rattle.block_core.specs.Change.{ItemsBelow};
 ghost use Rattle.block_core.specs.Written.{items_in};
 ghost use Rattle.levels.specs.Reads.{children_at};
 ghost use Rattle.sam_cmd.specs.Lists.{products as products_of};
-ghost use Rattle.sam_cmd.specs.Product.{IsVector, one_level, product_written, shared_by, value_tokens};
+ghost use Rattle.sam_cmd.specs.Product.{IsVector, product_written, shared_by, value_tokens};
+ghost use Rattle.sam_model.proofs.OneLevel.{one_level};
 
 use crate::lists::{Met, Side, array, copy, drop_absent, intersect, multiply, root, scan};
 use levels::Storage;
