@@ -1,5 +1,6 @@
 -- What each step of a command gives, and how it fails.
-use Rattle.std.specs.Prelude.{◌≡◌, ◌⊎◌, ◌≤◌, ℕ, List, Option, Some, None, length}
+use Rattle.std.specs.Prelude.{◌≡◌, ◌⊎◌, ◌≤◌, ◌*◌, ℕ, true, List, Option, Some, None, Ok, length}
+use Rattle.std.specs.List.{list_all}
 use Rattle.sam_base.specs.declared.faults.Fault.{Fault}
 use Rattle.sam_base.specs.declared.faults.Fault.TheVariants.{Usage, Missing, ReadFault, Program, Schedule, TooManyBlocks, NoSuchChannel, Tensor, Stalled, WriteFault, OutOfMemory, NotBuilt}
 use Rattle.sam_base.specs.declared.TheConstants.{FILE_MOST, DIMENSION_MOST}
@@ -8,9 +9,11 @@ use Rattle.sam_io.specs.Outside.{Told, Lacks, Tells, LongerThan}
 use Rattle.sam_model.specs.declared.tensors.Tensor.{Tensor as TensorType}
 use Rattle.sam_model.specs.declared.tensors.Entries.{Entries}
 use Rattle.sam_model.specs.declared.program.Program.{Program as ProgramType}
-use Rattle.sam_model.specs.Tensors.{stored_as}
+use Rattle.sam_model.specs.Lists.{within}
+use Rattle.sam_model.specs.Tensors.{entry_list, stored_as}
 use Rattle.sam_model.specs.Children.{Ranked, ranked}
-use Rattle.sam_cmd.specs.Form.{TwoVectors, form_of, program_of}
+use Rattle.tns_io.specs.Entries.{tns_entries}
+use Rattle.sam_cmd.specs.Form.{TwoVectors, form_of, program_of, vector_named}
 use Rattle.sam_cmd.specs.Answers.{FilesSpan, ReadsProgram, ReadsTensor, RefusesTensor}
 
 -- a file's text, or that it is too long
@@ -40,6 +43,24 @@ IsNoForm told name = ((bytes : List ℕ) × Tells told name bytes × (form_of by
 abbrev pub ProgramFault : FilesSpan → List ℕ → Fault → Type 0
 ProgramFault files name NotBuilt = IsNoForm files.told name
 ProgramFault files name fault = FileFault files name fault
+
+-- a compressed vector of a size in range
+pub record IsCompressedVector (t : TensorType) : Type 0 where
+  pub name : List ℕ
+  pub size : ℕ
+  pub file : List ℕ
+  pub is_vector : t ≡ vector_named name size file
+  pub least : 1 ≤ size
+  pub most : size ≤ DIMENSION_MOST
+
+-- the entries of a tensor's file, each inside the tensor
+pub record GivesEntries (told : Option Told) (t : TensorType) (e : Entries) : Type 0 where
+  pub bytes : List ℕ
+  pub told_bytes : Tells told t.file bytes
+  pub arity : e.arity ≡ length t.dims
+  pub entries : tns_entries t.dims bytes ≡ Ok (entry_list e.arity e.coords e.values)
+  pub whole : length e.coords ≡ e.arity * length e.values
+  pub inside : list_all (λ entry. within t.dims entry.0) (entry_list e.arity e.coords e.values) ≡ true
 
 -- a tensor as it is stored
 pub record GivesStorage (told : Option Told) (t : TensorType) (s : Ranked) : Type 0 where

@@ -1,17 +1,13 @@
 //! What a command answers: its text, or why there is none.
 
 ghost use Rattle.std.specs.Prelude.{◌≡◌, ◌≤◌, ◌⊎◌, ℕ, length, map, string_bytes, Some, None, IfOk, IfErr, IfNone, IfSome};
-ghost use Rattle.sam_base.specs.declared.TheConstants.{DIMENSION_MOST};
-ghost use Rattle.sam_cmd.specs.Answers.{program_named as named, Comes};
-ghost use Rattle.sam_cmd.specs.Steps.{GivesText, FileFault, GivesProgram, ProgramFault, GivesStorage, TensorFault};
-ghost use Rattle.sam_cmd.specs.Form.{vector_named};
+ghost use Rattle.sam_cmd.specs.Answers.{program_named as named};
+ghost use Rattle.sam_cmd.specs.Steps.{GivesText, FileFault, GivesProgram, ProgramFault, IsCompressedVector, GivesEntries, TensorFault};
 
 use crate::form::read_form;
-use crate::product::product;
-use levels::{BuildFault, Storage};
 use sam_base::{Fault, Name, TnsKind};
 use sam_io::{Files, ReadEnd, read_whole};
-use sam_model::{Program, Tensor};
+use sam_model::{Entries, Program, Tensor};
 use std::alloc::Global;
 use tns_io::{TnsFault, read_tns};
 
@@ -108,5 +104,35 @@ fn program<F: Files>(alloc: Global, files: &mut F, name: &Name) -> Result<Progra
             Ok(None) => Err(Fault::NotBuilt),
             Err(_) => Err(Fault::OutOfMemory),
         },
+    }
+}
+
+/// Reads the entries of a tensor's file.
+fn entries<F: Files>(alloc: Global, files: &mut F, t: &Tensor) -> Result<Entries, Fault>
+    requires { IsCompressedVector t.now }
+    ensures same { F.told files.new ≡ F.told files.old }
+    ensures faults { F.faults files.old ≤ F.faults files.new }
+    ensures misses { F.misses files.old ≤ F.misses files.new }
+    ensures ok { IfOk result (GivesEntries (F.told files.old) t.now) }
+    ensures err {
+        IfErr result
+            (TensorFault
+                (record {
+                    told = F.told files.old;
+                    faults_before = F.faults files.old;
+                    faults_now = F.faults files.new;
+                    misses_before = F.misses files.old;
+                    misses_now = F.misses files.new
+                })
+                t.now)
+    }
+{
+    let Some(text) = text(alloc, files, &t.file)? else {
+        return Err(refused(alloc, &t.file, TnsKind::FileTooLong, 0));
+    };
+    match read_tns(alloc, text.as_bytes(), &t.dims) {
+        Ok(entries) => Ok(entries),
+        Err(TnsFault::Refused { kind, line }) => Err(refused(alloc, &t.file, kind, line)),
+        Err(TnsFault::OutOfMemory) => Err(Fault::OutOfMemory),
     }
 }
