@@ -1,4 +1,8 @@
 pub mod ValueLemmas
 pub mod FieldLemmas
 pub mod EntryLemmas
+pub mod PathLemmas
+pub mod WalkLemmas
+pub mod LineLemmas
+pub mod ListingLemmas
 mod Worked

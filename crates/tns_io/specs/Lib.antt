@@ -2,3 +2,4 @@ pub mod Values
 pub mod Fields
 pub mod Entries
 pub mod Answers
+pub mod Walks

@@ -4,7 +4,10 @@
 mod entries;
 mod faults;
 mod fields;
+mod paths;
+mod results;
 mod values;
 
 pub use entries::read_tns;
 pub use faults::TnsFault;
+pub use results::result_text;
