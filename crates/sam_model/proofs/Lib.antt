@@ -1,2 +1,4 @@
 mod Rows
 mod Worked
+pub mod AcceptedLemmas
+mod AcceptedRows

@@ -3,3 +3,4 @@ pub mod Tensors
 pub mod Denote
 pub mod ResultText
 pub mod Children
+pub mod Accepted
