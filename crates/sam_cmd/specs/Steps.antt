@@ -14,7 +14,7 @@ use Rattle.sam_model.specs.Tensors.{entry_list, stored_as}
 use Rattle.sam_model.specs.Children.{Ranked, ranked}
 use Rattle.tns_io.specs.Entries.{tns_entries}
 use Rattle.sam_cmd.specs.Form.{TwoVectors, form_of, program_of, vector_named}
-use Rattle.sam_cmd.specs.Answers.{FilesSpan, ReadsProgram, ReadsTensor, RefusesTensor}
+use Rattle.sam_cmd.specs.Answers.{FilesSpan, ReadsProgram, ReadsTensor, RefusesTensor, left_tensor, right_tensor}
 
 -- a file's text, or that it is too long
 abbrev pub GivesText : Option Told → List ℕ → Option (List ℕ) → Type 0
@@ -71,3 +71,13 @@ pub record GivesStorage (told : Option Told) (t : TensorType) (s : Ranked) : Typ
 abbrev pub TensorFault : FilesSpan → TensorType → Fault → Type 0
 TensorFault files t (Tensor name kind line) = (name ≡ t.file) × RefusesTensor files.told t kind line
 TensorFault files t fault = FileFault files t.file fault
+
+-- the program is a product of these two stored vectors
+pub record IsProductOf (p : ProgramType) (left right : Ranked) : Type 0 where
+  pub vectors : TwoVectors
+  pub left_entries : Entries
+  pub right_entries : Entries
+  pub is_program : p ≡ program_of vectors
+  pub left_stored : left ≡ ranked (stored_as (left_tensor vectors) left_entries)
+  pub right_stored : right ≡ ranked (stored_as (right_tensor vectors) right_entries)
+  pub most : vectors.size ≤ DIMENSION_MOST

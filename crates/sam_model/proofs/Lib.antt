@@ -1,4 +1,6 @@
+mod AcceptedRows
 mod Rows
 mod Worked
 mod WorkedListing
+pub mod AcceptedLemmas
 pub mod OneLevel

@@ -4,3 +4,4 @@ pub mod Denote
 pub mod ResultText
 pub mod Listing
 pub mod Children
+pub mod Accepted

@@ -1,0 +1,5 @@
+pub mod TokenLemmas
+pub mod Found
+pub mod Again
+pub mod First
+pub mod Worked

@@ -1,0 +1,4 @@
+pub mod Tokens
+pub mod Refusals
+pub mod Positions
+pub mod Spelling

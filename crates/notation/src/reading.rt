@@ -1,0 +1,45 @@
+//! The reading of a statement.
+
+ghost use Rattle.std.specs.Prelude.{◌≡◌, ◌≤◌, length, IfOk, Ok};
+ghost use Rattle.notation.specs.declared.statement.Statement.{Statement as SpecStatement};
+ghost use Rattle.notation.specs.Refusals.{Gives, IfRefused};
+ghost use Rattle.notation.specs.Positions.{reading};
+ghost use Rattle.notation.specs.Spelling.{Spells, FirstFault};
+ghost use Rattle.notation.specs.Tokens.{tokens_of};
+
+use crate::state::State;
+use crate::statement::{NoteFault, Statement};
+use crate::step::{finish, step};
+use crate::tokens::{Found, Placed, token_at};
+use sam_base::FILE_MOST;
+use std::alloc::Global;
+
+fn read(alloc: Global, text: &[u8]) -> Result<Statement, NoteFault>
+    requires { length text.now ≤ FILE_MOST }
+    ensures { Gives result (reading text.now) }
+{
+    let mut state = State::Start;
+    let mut at = 0;
+    while let Some(Found { placed, end }) = token_at(alloc, text, at)? {
+        let Placed { token, place } = placed;
+        state = step(alloc, state, token, place)?;
+        at = end;
+    }
+    finish(state, text.len() as u32)
+}
+
+/// The statement that a text spells: an access, `=`, and terms with `+` or `-` between them, each of factors with `*`
+/// between them. A refusal tells the first fault. The text is read once, from the left.
+pub fn read_statement(alloc: Global, text: &[u8]) -> Result<Statement, NoteFault>
+    requires { length text.now ≤ FILE_MOST }
+    // What is read is spelled so.
+    ensures found { IfOk result (λ x. Spells (tokens_of text.now) x) }
+    // What is spelled so is read, unless memory runs out.
+    ensures only { (x : SpecStatement) → Spells (tokens_of text.now) x → Gives result (Ok x) }
+    // A refusal stands at the first fault.
+    ensures first { IfRefused result (FirstFault (length text.now) (tokens_of text.now)) }
+    // Its kind is that of the position where the first fault stands.
+    ensures exact { Gives result (reading text.now) }
+{
+    read(alloc, text)
+}

@@ -1,0 +1,365 @@
+//! Which programs are accepted.
+
+ghost use Rattle.std.specs.Prelude.{◌≡◌, nat_lt, count_by, slice_index};
+ghost use Rattle.std.specs.List.{list_all, list_any};
+ghost use Rattle.sam_model.specs.Lists.{below, is_in as in_list, items_at};
+ghost use Rattle.sam_model.specs.Denote.{has_var as has_variable};
+ghost use Rattle.sam_model.specs.Accepted.{distinct as apart, is_named as named, distinct_names as names_apart, ascending as ascends, ascending_from as ascends_from, is_dimension as in_range, is_order as orders, is_compressed as compressed, is_well_formed as well_formed, is_operand as operand, is_result as result_form, variables_fit as vars_fit, access_fits as fits, factor_fits as fits_factor, tensor_passes, is_access as accesses, term_has as has, reduces as shallow, term_fits as fits_term, stands as occurs, statement_fits as fits_statement, declarations_fit as fits_declarations, terms_have as have, factor_reduces as factor_shallow, is_taken as taken, distinct_tensors as tensors_apart, accepted as accepts};
+
+use crate::program::{Factor, Program, Term};
+use crate::tensors::{Format, Tensor};
+use sam_base::{DIMENSION_MOST, FACTORS_MOST, Name, TERMS_MOST, VARIABLES_MOST};
+
+fn is_in(v: u64, vars: &[u64]) -> bool
+    ensures { result ≡ in_list v vars.now }
+{
+    vars.iter().any(|w| v == *w)
+}
+
+/// Whether no number stands twice.
+fn distinct(numbers: &[u64]) -> bool
+    ensures { result ≡ apart numbers.now }
+{
+    match numbers {
+        [] => true,
+        [first, rest @ ..] => !is_in(*first, rest) && distinct(rest),
+    }
+}
+
+/// Whether one of these names is this one.
+pub fn is_named(name: &[u8], names: &[Name]) -> bool
+    ensures { result ≡ named name.now names.now }
+{
+    names.iter().any(|other| name == other.as_bytes())
+}
+
+/// Whether no name stands twice.
+pub fn distinct_names(names: &[Name]) -> bool
+    ensures { result ≡ names_apart names.now }
+{
+    match names {
+        [] => true,
+        [first, rest @ ..] => !is_named(first.as_bytes(), rest) && distinct_names(rest),
+    }
+}
+
+fn item_at(numbers: &[u64], place: u64) -> u64
+    ensures { result ≡ slice_index numbers.now place }
+{
+    numbers.get(place as usize).copied().unwrap_or(0)
+}
+
+fn ascending_from(last: u64, vars: &[u64], order: &[u64]) -> bool
+    ensures { result ≡ ascends_from last (items_at vars.now order.now) }
+{
+    match order {
+        [] => true,
+        [first, rest @ ..] => {
+            let next = item_at(vars, *first);
+            last < next && ascending_from(next, vars, rest)
+        }
+    }
+}
+
+/// Whether the variables stand in loop order when they are listed in storage order.
+fn ascending(vars: &[u64], order: &[u64]) -> bool
+    ensures { result ≡ ascends (items_at vars.now order.now) }
+{
+    match order {
+        [] => true,
+        [first, rest @ ..] => ascending_from(item_at(vars, *first), vars, rest),
+    }
+}
+
+fn is_dimension(d: u64) -> bool
+    ensures { result ≡ in_range d }
+{
+    1 <= d && d <= DIMENSION_MOST
+}
+
+fn are_below(numbers: &[u64], count: u64) -> bool
+    ensures { result ≡ list_all (λ m. nat_lt m count) numbers.now }
+{
+    numbers.iter().all(|m| *m < count)
+}
+
+/// Whether these are the modes below a count, each once.
+fn is_order(count: usize, order: &[u64]) -> bool
+    ensures { result ≡ orders count order.now }
+{
+    order.len() == count && are_below(order, count as u64) && distinct(order)
+}
+
+fn is_compressed(format: &Format) -> bool
+    ensures { result ≡ compressed format.now }
+{
+    match format {
+        Format::Dense => false,
+        Format::Compressed => true,
+    }
+}
+
+fn are_compressed(formats: &[Format]) -> bool
+    ensures { result ≡ list_all compressed formats.now }
+{
+    formats.iter().all(|format| is_compressed(format))
+}
+
+fn are_dimensions(dims: &[u64]) -> bool
+    ensures { result ≡ list_all in_range dims.now }
+{
+    dims.iter().all(|d| is_dimension(*d))
+}
+
+fn is_well_formed(tensor: &Tensor) -> bool
+    ensures { result ≡ well_formed tensor.now }
+{
+    let count = tensor.dims.len();
+    count <= VARIABLES_MOST
+        && are_dimensions(tensor.dims.as_slice())
+        && tensor.formats.len() == count
+        && is_order(count, tensor.order.as_slice())
+}
+
+fn is_operand(tensor: &Tensor) -> bool
+    ensures { result ≡ operand tensor.now }
+{
+    1 <= tensor.dims.len() && is_well_formed(tensor)
+}
+
+fn is_result(tensor: &Tensor) -> bool
+    ensures { result ≡ result_form tensor.now }
+{
+    is_well_formed(tensor) && are_compressed(tensor.formats.as_slice())
+}
+
+/// Whether there are as many variables as dimensions, each in range and of the size of its dimension.
+fn variables_fit(sizes: &[u64], dims: &[u64], vars: &[u64]) -> bool
+    ensures { result ≡ vars_fit sizes.now dims.now vars.now }
+{
+    match dims {
+        [] => match vars {
+            [] => true,
+            [_, ..] => false,
+        },
+        [d, dims @ ..] => match vars {
+            [] => false,
+            [v, vars @ ..] => {
+                *v < sizes.len() as u64
+                    && item_at(sizes, *v) == *d
+                    && variables_fit(sizes, dims, vars)
+            }
+        },
+    }
+}
+
+/// Whether the variables of an access fit its tensor, none stands twice, and in storage order they stand in loop order.
+fn access_fits(sizes: &[u64], vars: &[u64], tensor: &Tensor) -> bool
+    ensures { result ≡ fits sizes.now vars.now tensor.now }
+{
+    variables_fit(sizes, tensor.dims.as_slice(), vars)
+        && distinct(vars)
+        && ascending(vars, tensor.order.as_slice())
+}
+
+/// Whether an access of a tensor, by its number, is in range and fits.
+fn numbered_fits(tensors: &[Tensor], number: usize, sizes: &[u64], vars: &[u64]) -> bool
+    ensures { result ≡ tensor_passes (fits sizes.now vars.now) tensors.now number }
+{
+    if number < tensors.len() {
+        access_fits(sizes, vars, &tensors[number])
+    } else {
+        false
+    }
+}
+
+fn factor_fits(tensors: &[Tensor], sizes: &[u64], factor: &Factor) -> bool
+    ensures { result ≡ fits_factor tensors.now sizes.now factor.now }
+{
+    match factor {
+        Factor::Access { tensor, vars } => {
+            numbered_fits(tensors, *tensor as usize, sizes, vars.as_slice())
+        }
+        Factor::Literal(_) => true,
+    }
+}
+
+fn factors_fit(tensors: &[Tensor], sizes: &[u64], factors: &[Factor]) -> bool
+    ensures { result ≡ list_all (fits_factor tensors.now sizes.now) factors.now }
+{
+    factors
+        .iter()
+        .all(|factor| factor_fits(tensors, sizes, factor))
+}
+
+fn is_access(factor: &Factor) -> bool
+    ensures { result ≡ accesses factor.now }
+{
+    match factor {
+        Factor::Access { .. } => true,
+        Factor::Literal(_) => false,
+    }
+}
+
+fn has_access(factors: &[Factor]) -> bool
+    ensures { result ≡ list_any accesses factors.now }
+{
+    factors.iter().any(|factor| is_access(factor))
+}
+
+fn has_var(v: u64, factor: &Factor) -> bool
+    ensures { result ≡ has_variable v factor.now }
+{
+    match factor {
+        Factor::Access { vars, .. } => is_in(v, vars.as_slice()),
+        Factor::Literal(_) => false,
+    }
+}
+
+fn term_has(term: &Term, v: u64) -> bool
+    ensures { result ≡ has term.now v }
+{
+    term.factors
+        .as_slice()
+        .iter()
+        .any(|factor| has_var(v, factor))
+}
+
+fn has_all(term: &Term, left: &[u64]) -> bool
+    ensures { result ≡ list_all (has term.now) left.now }
+{
+    left.iter().all(|v| term_has(term, *v))
+}
+
+fn count_after(left: &[u64], v: u64) -> usize
+    ensures { result ≡ count_by (nat_lt v) left.now }
+{
+    left.iter().filter(|w| v < **w).count()
+}
+
+/// Whether at most two variables of the left come after a variable, unless it is on the left itself.
+fn reduces(left: &[u64], v: u64) -> bool
+    ensures { result ≡ shallow left.now v }
+{
+    is_in(v, left) || count_after(left, v) <= 2
+}
+
+fn factor_reduces(left: &[u64], factor: &Factor) -> bool
+    ensures { result ≡ factor_shallow left.now factor.now }
+{
+    match factor {
+        Factor::Access { vars, .. } => vars.as_slice().iter().all(|v| reduces(left, *v)),
+        Factor::Literal(_) => true,
+    }
+}
+
+fn factors_reduce(left: &[u64], factors: &[Factor]) -> bool
+    ensures { result ≡ list_all (factor_shallow left.now) factors.now }
+{
+    factors.iter().all(|factor| factor_reduces(left, factor))
+}
+
+/// Whether a term has one to eight factors that fit, an access, each variable of the left, and no reduction too deep.
+fn term_fits(tensors: &[Tensor], sizes: &[u64], left: &[u64], term: &Term) -> bool
+    ensures { result ≡ fits_term tensors.now sizes.now left.now term.now }
+{
+    let factors = term.factors.as_slice();
+    1 <= factors.len()
+        && factors.len() <= FACTORS_MOST
+        && factors_fit(tensors, sizes, factors)
+        && has_access(factors)
+        && has_all(term, left)
+        && factors_reduce(left, factors)
+}
+
+fn terms_fit(tensors: &[Tensor], sizes: &[u64], left: &[u64], terms: &[Term]) -> bool
+    ensures { result ≡ list_all (fits_term tensors.now sizes.now left.now) terms.now }
+{
+    terms
+        .iter()
+        .all(|term| term_fits(tensors, sizes, left, term))
+}
+
+fn terms_have(terms: &[Term], v: u64) -> bool
+    ensures { result ≡ have terms.now v }
+{
+    terms.iter().any(|term| term_has(term, v))
+}
+
+/// Whether a variable stands in the statement.
+fn stands(left: &[u64], terms: &[Term], v: u64) -> bool
+    ensures { result ≡ occurs left.now terms.now v }
+{
+    is_in(v, left) || terms_have(terms, v)
+}
+
+fn all_stand(left: &[u64], terms: &[Term], count: usize) -> bool
+    ensures { result ≡ list_all (occurs left.now terms.now) (below count) }
+{
+    for v in 0..count {
+        if !stands(left, terms, v as u64) {
+            return false;
+        }
+    }
+    true
+}
+
+fn is_taken(name: &[u8], tensors: &[Tensor]) -> bool
+    ensures { result ≡ taken name.now tensors.now }
+{
+    tensors.iter().any(|tensor| name == tensor.name.as_bytes())
+}
+
+fn distinct_tensors(tensors: &[Tensor]) -> bool
+    ensures { result ≡ tensors_apart tensors.now }
+{
+    for i in 0..tensors.len() {
+        if is_taken(tensors[i].name.as_bytes(), &tensors[i + 1..]) {
+            return false;
+        }
+    }
+    true
+}
+
+/// Whether the statement of a program fits its tensors and its loops: there are one to sixteen terms and at most eight
+/// variables, each of which stands in the statement; each access fits its tensor, in loop order; each term has an access
+/// and each variable of the left side; and at most two variables of the left come after one that is summed over.
+pub fn statement_fits(p: &Program) -> bool
+    ensures { result ≡ fits_statement p.now }
+{
+    let left = p.left.as_slice();
+    let sizes = p.var_sizes.as_slice();
+    let terms = p.terms.as_slice();
+    p.var_names.len() == sizes.len()
+        && sizes.len() <= VARIABLES_MOST
+        && distinct_names(p.var_names.as_slice())
+        && all_stand(left, terms, sizes.len())
+        && access_fits(sizes, left, &p.result)
+        && 1 <= terms.len()
+        && terms.len() <= TERMS_MOST
+        && terms_fit(p.tensors.as_slice(), sizes, left, terms)
+}
+
+fn are_operands(tensors: &[Tensor]) -> bool
+    ensures { result ≡ list_all operand tensors.now }
+{
+    tensors.iter().all(|tensor| is_operand(tensor))
+}
+
+fn declarations_fit(p: &Program) -> bool
+    ensures { result ≡ fits_declarations p.now.tensors p.now.result }
+{
+    let tensors = p.tensors.as_slice();
+    are_operands(tensors)
+        && is_result(&p.result)
+        && distinct_tensors(tensors)
+        && !is_taken(p.result.name.as_bytes(), tensors)
+}
+
+/// Whether a program is accepted: its tensors and its result are well formed and have different names, and its statement
+/// fits them.
+pub fn accepted(p: &Program) -> bool
+    ensures { result ≡ accepts p.now }
+{
+    declarations_fit(p) && statement_fits(p)
+}
