@@ -12,6 +12,8 @@ mod Either
 mod MergeFlows
 mod FillFlows
 pub mod All
+pub mod Readings
+pub mod MergeReadings
 mod Works
 mod WorkedCopies
 mod WorkedMerges

@@ -6,7 +6,7 @@ use Rattle.std.proofs.Common.{sym, ◌∙◌, ap, subst}
 use Rattle.stream_tokens.specs.declared.Token.{Token}
 use Rattle.stream_tokens.specs.Nest.{Nest, nmap, Fiber, spread, beneath, fibers}
 use Rattle.stream_tokens.specs.Flat.{written, closed, flat}
-use Rattle.stream_tokens.specs.Shapes.{on_fiber, on_fibers, on_tokens, beneath_by, under, both, rest, beside, past, split, put_first, cut, at_least_one, pairs, Positive, Each, EachToken}
+use Rattle.stream_tokens.specs.Shapes.{on_fiber, on_fibers, on_tokens, beneath_by, under, both, beside, past, split, put_first, cut, at_least_one, pairs, Positive, Each, EachToken}
 
 pub map-map : {A B C : Type 0} (f : B → C) (g : A → B) (xs : List A) → map f (map g xs) ≡ map (λ x. f (g x)) xs
 map-map f g [] = refl

@@ -1,13 +1,13 @@
 -- Streams as fibers: a tree's stream is its fibers written out, and the fibers of a stream are those of its tree.
-use Rattle.std.specs.Prelude.{◌≡◌, ◌⊎◌, ℕ, zero, suc, ◌+◌, List, [], ◌∷◌, ◌++◌, Some, None, refl}
+use Rattle.std.specs.Prelude.{◌≡◌, ℕ, zero, suc, ◌+◌, List, [], ◌∷◌, ◌++◌, Some, None, refl}
 use Rattle.std.specs.List.{flat_map}
 use mathlib.Core.List.{map}
 use Rattle.std.proofs.Common.{arith, inl, inr, sym, ◌∙◌, ap, subst, append_assoc, append-nil}
 use Rattle.stream_tokens.specs.declared.Token.{Token}
-use Rattle.stream_tokens.specs.declared.Token.TheVariants.{Item, Empty, Stop, Done}
-use Rattle.stream_tokens.specs.Nest.{Nest, nmap, Leaf, leaf, between, joined, body, end_of, stream, IsStream, Fiber, spread, beneath, fibers}
+use Rattle.stream_tokens.specs.declared.Token.TheVariants.{Stop, Done}
+use Rattle.stream_tokens.specs.Nest.{Nest, Leaf, leaf, between, joined, body, end_of, stream, IsStream, Fiber, spread, beneath, fibers}
 use Rattle.stream_tokens.specs.Flat.{written, closed, flat, put_leaf, fibers_of}
-use Rattle.stream_tokens.specs.Shapes.{on_tokens, under, Positive, Shaped}
+use Rattle.stream_tokens.specs.Shapes.{Positive, Shaped}
 
 -- ---- a tree's stream
 
