@@ -14,6 +14,7 @@ mod FillFlows
 pub mod All
 pub mod Readings
 pub mod MergeReadings
+pub mod Given
 mod Works
 mod WorkedCopies
 mod WorkedMerges
