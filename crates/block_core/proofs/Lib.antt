@@ -15,6 +15,9 @@ pub mod All
 pub mod Readings
 pub mod MergeReadings
 pub mod Given
+pub mod FillReadings
+pub mod FillGiven
+pub mod Laid
 mod Works
 mod WorkedCopies
 mod WorkedMerges

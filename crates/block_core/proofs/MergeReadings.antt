@@ -14,7 +14,7 @@ use Rattle.block_core.proofs.Readings.{leaves-read, numbers-read}
 
 -- ---- the streams of a side, by ports
 
-over_at : {A : Type 0} (x : ℕ → A) (p n q : ℕ) (d : A) → q < n → get_or (over x p n) q d ≡ x (p + q)
+pub over_at : {A : Type 0} (x : ℕ → A) (p n q : ℕ) (d : A) → q < n → get_or (over x p n) q d ≡ x (p + q)
 over_at x p zero q d b = absurd (omega (arith, b))
 over_at x p (suc n) zero d b = ap x (omega arith)
 over_at x p (suc n) (suc q) d b = over_at x (suc p) n q d (omega (arith, b)) ∙ ap x (omega arith)
@@ -28,7 +28,7 @@ after_others : (f : ℕ → List Token) (p n q : ℕ) (ss : Streams) → port (n
 after_others f p zero q ss = ap (λ (x : ℕ). port x ss) (omega arith)
 after_others f p (suc n) q ss = let e : suc n + q ≡ suc (n + q) = omega arith in rw e (after_others f (suc p) n q ss)
 
-over_ext : {A : Type 0} (x y : ℕ → A) (p q n : ℕ) → ((i : ℕ) → i < n → x (p + i) ≡ y (q + i)) → over x p n ≡ over y q n
+pub over_ext : {A : Type 0} (x y : ℕ → A) (p q n : ℕ) → ((i : ℕ) → i < n → x (p + i) ≡ y (q + i)) → over x p n ≡ over y q n
 over_ext x y p q zero e = refl
 over_ext x y p q (suc n) e =
     let first : x p ≡ y q = ap x (omega arith) ∙ e 0 (omega arith) ∙ ap y (omega arith) in
@@ -36,7 +36,7 @@ over_ext x y p q (suc n) e =
     over_ext x y (suc p) (suc q) n (λ i b. ap x (omega arith) ∙ e (suc i) (omega (arith, b)) ∙ ap y (omega arith)) in
     rw (first, more) refl
 
-map_over : {A B : Type 0} (f : A → B) (x : ℕ → A) (p n : ℕ) → map f (over x p n) ≡ over (λ i. f (x i)) p n
+pub map_over : {A B : Type 0} (f : A → B) (x : ℕ → A) (p n : ℕ) → map f (over x p n) ≡ over (λ i. f (x i)) p n
 map_over f x p zero = refl
 map_over f x p (suc n) = ap (λ (ys : List _). f (x p) ∷ ys) (map_over f x (suc p) n)
 
