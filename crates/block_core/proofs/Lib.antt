@@ -12,6 +12,7 @@ mod Either
 mod MergeFlows
 mod FillFlows
 pub mod All
+pub mod Arity
 pub mod Readings
 pub mod MergeReadings
 pub mod Given
