@@ -1,5 +1,5 @@
 -- What a fiber's lists look like in a stream, after others of the fiber or after none.
-use Rattle.std.specs.Prelude.{◌≡◌, ℕ, suc, Bool, true, false, List, [], ◌∷◌, ◌++◌, refl}
+use Rattle.std.specs.Prelude.{◌≡◌, ℕ, Bool, true, false, List, [], ◌∷◌, ◌++◌, refl}
 use mathlib.Core.List.{map}
 use Rattle.std.proofs.Common.{ap}
 use Rattle.stream_tokens.specs.declared.Token.{Token}

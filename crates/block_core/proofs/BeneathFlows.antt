@@ -1,17 +1,17 @@
 -- The moves of scan and dropfiber flow.
-use Rattle.std.specs.Prelude.{◌≡◌, ◌⊎◌, ℕ, zero, suc, pred, Bool, true, false, List, [], ◌∷◌, ◌++◌, Some, None, refl}
+use Rattle.std.specs.Prelude.{ℕ, suc, Bool, true, false, List, [], ◌∷◌, ◌++◌, Some, None, refl}
 use Rattle.std.specs.List.{filter}
 use mathlib.Core.List.{map}
-use Rattle.std.proofs.Common.{sym, ◌∙◌, ap, subst, inl, inr}
+use Rattle.std.proofs.Common.{sym, subst, inl, inr}
 use Rattle.stream_tokens.specs.declared.Token.{Token}
-use Rattle.stream_tokens.specs.declared.Token.TheVariants.{Item, Stop, Done}
+use Rattle.stream_tokens.specs.declared.Token.TheVariants.{Item, Stop}
 use Rattle.stream_tokens.specs.Nest.{Leaf, leaf, Fiber, spread}
-use Rattle.stream_tokens.specs.Flat.{written, closed, flat}
+use Rattle.stream_tokens.specs.Flat.{written, flat}
 use Rattle.stream_tokens.specs.Shapes.{Positive, Shaped, under, on_fibers}
-use Rattle.block_core.specs.Move.{Move, put_two}
-use Rattle.block_core.specs.Ports.{Streams, first_item, second}
-use Rattle.block_core.specs.Scan.{Children, kids, coordinates_below, references_below, scan_moves, scan_inputs, scan_outputs, opened, kid_moves}
-use Rattle.block_core.specs.DropFiber.{has_fiber, pass_items, keep_moves, keep_fiber, dropfiber_moves, dropfiber_inputs, dropfiber_outputs}
+use Rattle.block_core.specs.Move.{Move}
+use Rattle.block_core.specs.Ports.{first_item, second}
+use Rattle.block_core.specs.Scan.{Children, kids, coordinates_below, references_below, scan_moves, scan_inputs, scan_outputs, kid_moves}
+use Rattle.block_core.specs.DropFiber.{has_fiber, pass_items, keep_fiber, dropfiber_moves, dropfiber_inputs, dropfiber_outputs}
 use Rattle.block_core.specs.Flows.{Flows}
 use Rattle.block_core.proofs.After.{after, after-under}
 

@@ -1,7 +1,7 @@
 -- The moves of fill flow.
 use Rattle.std.specs.Prelude.{◌≡◌, ℕ, zero, suc, ◌+◌, Bool, true, false, List, [], ◌∷◌, ◌++◌, length, Some, None, refl}
 use mathlib.Core.List.{map}
-use Rattle.std.proofs.Common.{sym, subst, ◌∙◌, ap, append_assoc}
+use Rattle.std.proofs.Common.{sym, subst}
 use Rattle.stream_tokens.specs.declared.Token.{Token}
 use Rattle.stream_tokens.specs.declared.Token.TheVariants.{Stop, Done}
 use Rattle.stream_tokens.specs.Nest.{Fiber}
@@ -10,7 +10,7 @@ use Rattle.stream_tokens.specs.Shapes.{Positive, under}
 use Rattle.block_core.specs.Move.{Move, Taking, columns}
 use Rattle.block_core.specs.Ports.{Streams}
 use Rattle.block_core.specs.Fill.{Serving, Place, Filling, mark, stop_tokens, skips_at, number_at, stop_at, served_tokens, tail_at, port_tokens, served, opened_all, take_stops, past_takes, more_moves, serve, fill_places, fill_moves, fill_inputs, fill_outputs}
-use Rattle.block_core.specs.Flows.{Front, Flows, NoTokens}
+use Rattle.block_core.specs.Flows.{Flows, NoTokens}
 use Rattle.block_core.proofs.Rows.{front_at, next_at, moved, take-last, put-across}
 use Rattle.block_core.proofs.After.{after, after-under}
 

@@ -1,6 +1,5 @@
 -- Two ascending sides, merged from their fronts: the recursion, and that an intersection of them is `meet`.
-use Rattle.std.specs.Prelude.{◌≡◌, ◌<◌, ◌≤◌, ℕ, zero, suc, Bool, true, false, List, [], ◌∷◌, ◌++◌, Option, Some, None, eqb, ltb, cond, nat_lt, if◌then◌else◌, refl}
-use mathlib.Core.List.{map}
+use Rattle.std.specs.Prelude.{◌≡◌, ◌<◌, ◌≤◌, ℕ, Bool, true, false, List, [], ◌∷◌, Option, Some, None, eqb, ltb, nat_lt, if◌then◌else◌, refl}
 use Rattle.std.proofs.Common.{arith, sym, ◌∙◌, ap}
 use Rattle.std.proofs.lemmas.Bool.Decides.{nat_tests}
 use Rattle.stream_tokens.specs.Nest.{Leaf}

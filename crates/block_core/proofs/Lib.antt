@@ -12,6 +12,13 @@ mod Either
 mod MergeFlows
 mod FillFlows
 pub mod All
+pub mod Arity
+pub mod Readings
+pub mod MergeReadings
+pub mod Given
+pub mod FillReadings
+pub mod FillGiven
+pub mod Laid
 mod Works
 mod WorkedCopies
 mod WorkedMerges

@@ -1,8 +1,7 @@
 -- The moves of root, cast, drain, const, array, the writers, mul, add, sub and dropvalue flow.
-use Rattle.std.specs.Prelude.{◌≡◌, ℕ, zero, suc, List, [], ◌∷◌, ◌++◌, Some, None, refl}
+use Rattle.std.specs.Prelude.{ℕ, zero, suc, List, [], ◌∷◌, Some, None, refl}
 use Rattle.std.specs.List.{filter}
 use mathlib.Core.List.{map}
-use Rattle.std.proofs.Common.{sym, subst, append-nil}
 use Rattle.stream_tokens.specs.declared.Token.{Token}
 use Rattle.stream_tokens.specs.Nest.{Leaf, leaf, Fiber}
 use Rattle.stream_tokens.specs.Flat.{written}

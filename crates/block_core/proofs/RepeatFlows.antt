@@ -1,5 +1,5 @@
 -- The moves of repeat and sumscalar flow.
-use Rattle.std.specs.Prelude.{◌≡◌, ◌⊎◌, ℕ, zero, suc, List, [], ◌∷◌, ◌++◌, refl}
+use Rattle.std.specs.Prelude.{ℕ, zero, suc, List, [], ◌∷◌, ◌++◌, refl}
 use mathlib.Core.List.{map}
 use Rattle.std.proofs.Common.{sym, subst, inl, inr}
 use Rattle.stream_tokens.specs.declared.Token.{Token}

@@ -1,6 +1,6 @@
 -- A row of tokens, one for each of several neighbouring ports, taken from or put on the fronts of their streams.
 use Rattle.std.specs.Prelude.{◌≡◌, ℕ, zero, suc, ◌+◌, List, [], ◌∷◌, ◌++◌, length, refl}
-use Rattle.std.proofs.Common.{arith, sym, ◌∙◌, ap, subst, append_assoc, append-nil, length-append, add-one}
+use Rattle.std.proofs.Common.{arith, sym, subst, append_assoc, append-nil, length-append}
 use Rattle.stream_tokens.specs.declared.Token.{Token}
 use Rattle.block_core.specs.Move.{Move, take_row, put_row, over, across, columns}
 use Rattle.block_core.specs.Ports.{Streams}

@@ -1,13 +1,13 @@
 -- The moves of sumvector and summatrix flow.
-use Rattle.std.specs.Prelude.{◌≡◌, ℕ, zero, suc, List, [], ◌∷◌, ◌++◌, refl}
+use Rattle.std.specs.Prelude.{ℕ, suc, List, [], ◌∷◌, ◌++◌, refl}
 use mathlib.Core.List.{map}
 use Rattle.std.proofs.Common.{sym, subst}
 use Rattle.stream_tokens.specs.declared.Token.{Token}
 use Rattle.stream_tokens.specs.declared.Token.TheVariants.{Stop}
 use Rattle.stream_tokens.specs.Nest.{Leaf, Fiber, spread, beneath}
-use Rattle.stream_tokens.specs.Flat.{written, closed, flat}
+use Rattle.stream_tokens.specs.Flat.{written, flat}
 use Rattle.stream_tokens.specs.Shapes.{Positive, under, on_fibers}
-use Rattle.block_core.specs.Move.{Move, Taking, put_two}
+use Rattle.block_core.specs.Move.{Move}
 use Rattle.block_core.specs.Ports.{first_item, second_leaf, second, same}
 use Rattle.block_core.specs.SumVector.{vector_sum, take_pairs, put_pairs, piece_takes, sumvector_moves, sumvector_inputs, sumvector_outputs}
 use Rattle.block_core.specs.SumMatrix.{MatrixRow, matrix_sum, take_inner, row_takes, outer_takes, matrix_takes, put_inner, row_puts, flush, summatrix_moves, summatrix_inputs, summatrix_outputs}

@@ -1,5 +1,5 @@
 -- Worked cases: whole inputs that fit.
-use Rattle.std.specs.Prelude.{List, [], ◌∷◌, Some, None, refl}
+use Rattle.std.specs.Prelude.{[], ◌∷◌, Some, None, refl}
 use Rattle.std.proofs.Common.{arith, inl, inr}
 use Rattle.stream_tokens.specs.declared.Token.TheVariants.{Item, Empty, Stop, Done}
 use Rattle.block_core.specs.Arithmetic.{Minus}

@@ -1,5 +1,5 @@
 -- The three operations on values modulo 2^64, where a value may be absent.
-use Rattle.std.specs.Prelude.{ℕ, ◌+◌, ◌-◌, ◌*◌, ◌%◌, ◌^◌, List, [], ◌∷◌, Some, None}
+use Rattle.std.specs.Prelude.{◌+◌, ◌-◌, ◌*◌, ◌%◌, ◌^◌, List, [], ◌∷◌, Some, None}
 use Rattle.stream_tokens.specs.Nest.{Leaf}
 
 pub data Operation : Type 0 where

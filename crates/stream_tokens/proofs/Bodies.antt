@@ -7,7 +7,7 @@ use Rattle.std.proofs.lemmas.Bool.Decides.{nat_tests}
 use Rattle.std.proofs.lemmas.List.{same_from_push}
 use Rattle.stream_tokens.specs.declared.Token.{Token}
 use Rattle.stream_tokens.specs.declared.Token.TheVariants.{Item, Empty, Stop, Done}
-use Rattle.stream_tokens.specs.Nest.{Nest, Leaf, leaf, between, joined, body, end_of, stream, HasDepth}
+use Rattle.stream_tokens.specs.Nest.{Nest, Leaf, leaf, between, joined, body, HasDepth}
 use Rattle.stream_tokens.specs.Body.{is_inside, Ends}
 
 -- all these tokens may stand in a body whose stops are below n
