@@ -140,7 +140,7 @@ impl MatrixReducer {
     /// A matrix reducer before its first move; it takes no memory before a coordinate comes.
     pub fn new(alloc: Global) -> MatrixReducer
         ensures same_kind { ⟦<MatrixReducer as BlockStep>⟧.kind result ≡ SumMatrixKind }
-        ensures unsure { ⟦<MatrixReducer as BlockStep>⟧.may_refuse result ≡ true }
+        ensures may_refuse { ⟦<MatrixReducer as BlockStep>⟧.may_refuse result ≡ true }
         ensures starts { (s : Streams) → Fits SumMatrixKind s → ⟦<MatrixReducer as BlockStep>⟧.stands result s 0 }
     {
         let no_rows: BTreeMap<u64, Sums> = BTreeMap::new(alloc);

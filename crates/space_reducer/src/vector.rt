@@ -94,7 +94,7 @@ impl VectorReducer {
     /// A vector reducer before its first move; it takes no memory before a value comes.
     pub fn new(alloc: Global) -> VectorReducer
         ensures same_kind { ⟦<VectorReducer as BlockStep>⟧.kind result ≡ SumVectorKind }
-        ensures unsure { ⟦<VectorReducer as BlockStep>⟧.may_refuse result ≡ true }
+        ensures may_refuse { ⟦<VectorReducer as BlockStep>⟧.may_refuse result ≡ true }
         ensures starts { (s : Streams) → Fits SumVectorKind s → ⟦<VectorReducer as BlockStep>⟧.stands result s 0 }
     {
         VectorReducer {
@@ -116,7 +116,8 @@ impl VectorReducer {
         };
     }
 
-    /// All that was kept is put, and then a stop; nothing is kept any more.
+    /// All that was kept is put, and then a stop; nothing is kept any more. The map gives its memory back as it is put:
+    /// one of std keeps none for later.
     fn flush(&mut self, stop: u8)
         ensures { self.new ≡ flush self.old stop }
     {
