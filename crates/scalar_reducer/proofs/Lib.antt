@@ -1,3 +1,2 @@
 mod LeftSum
 mod SumRuns
-mod Worked

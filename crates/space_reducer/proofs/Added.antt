@@ -1,5 +1,5 @@
 -- A value added at a coordinate of an ordered map.
-use Rattle.std.proofs.Common.{◌≡◌, ℕ, ◌+◌, ◌%◌, ◌^◌, List, [], ◌∷◌, Some, None, refl, sym, ◌∙◌, ap, add_assoc, add_comm}
+use Rattle.std.proofs.Common.{◌≡◌, ℕ, ◌+◌, ◌%◌, ◌^◌, List, Some, None, refl, sym, ◌∙◌, ap, add_assoc, add_comm}
 use Rattle.std.proofs.Math.Nat.{add-mod-mod, mod-add-mod}
 use Rattle.std.specs.Ordering.{nat_cmp}
 use Rattle.std.specs.List.Sorted.{IsStrictlySortedBy}
@@ -9,7 +9,7 @@ use Rattle.std.specs.Option.{unwrap_or}
 use Rattle.stream_tokens.specs.Nest.{Leaf}
 use Rattle.block_core.specs.Arithmetic.{combine, Plus}
 use Rattle.block_core.specs.Gather.{add_at}
-use Rattle.space_reducer.proofs.Changed.{change_at, add-changes}
+use Rattle.space_reducer.proofs.Changed.{add-changes}
 use Rattle.space_reducer.proofs.Ordered.{insert-changes, ascends-sorted}
 
 pub plus-nothing : (a : Leaf) → combine Plus a None ≡ a

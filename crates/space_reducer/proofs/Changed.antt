@@ -2,7 +2,7 @@
 use Rattle.std.proofs.Common.{◌≡◌, ℕ, ◌<◌, List, [], ◌∷◌, ltb, eqb, cond, refl, sym, ◌∙◌, ap, inl, inr, arith}
 use Rattle.std.proofs.lemmas.Bool.{lt-ltb, le-ltb, eq-eqb, ne_eqb, cond-true, cond-false, cases_order}
 use mathlib.Core.List.{map}
-use Rattle.block_core.specs.Gather.{add_at, gather}
+use Rattle.block_core.specs.Gather.{add_at}
 
 -- the element at c changed by f, which gets e where there is none
 abbrev pub change_at : {V : Type 0} → V → (V → V) → ℕ → List (ℕ × V) → List (ℕ × V)
@@ -26,10 +26,10 @@ module _ {V : Type 0} (e : V) where
       → change_at e f a (change_at e g b (p ∷ ps)) ≡ (a, f e) ∷ change_at e g b (p ∷ ps)
   first-stays f g a b p ps h l =
       elim (cases_order b p.0) [
-        inl q ↦ ap (change_at e f a) (change-here g b p ps q) ∙ change-below f a (b, g p.1) ps l ∙ ap (λ xs. (a, f e) ∷ xs) (sym (change-here g b p ps q))
-      | inr c ↦ elim c [
-          inl q ↦ ap (change_at e f a) (change-below g b p ps q) ∙ change-below f a (b, g e) (p ∷ ps) l ∙ ap (λ xs. (a, f e) ∷ xs) (sym (change-below g b p ps q))
-        | inr q ↦ ap (change_at e f a) (change-above g b p ps q) ∙ change-below f a p (change_at e g b ps) h ∙ ap (λ xs. (a, f e) ∷ xs) (sym (change-above g b p ps q))
+        | inl q ↦ ap (change_at e f a) (change-here g b p ps q) ∙ change-below f a (b, g p.1) ps l ∙ ap (λ xs. (a, f e) ∷ xs) (sym (change-here g b p ps q))
+        | inr c ↦ elim c [
+          | inl q ↦ ap (change_at e f a) (change-below g b p ps q) ∙ change-below f a (b, g e) (p ∷ ps) l ∙ ap (λ xs. (a, f e) ∷ xs) (sym (change-below g b p ps q))
+          | inr q ↦ ap (change_at e f a) (change-above g b p ps q) ∙ change-below f a p (change_at e g b ps) h ∙ ap (λ xs. (a, f e) ∷ xs) (sym (change-above g b p ps q))
         ]
       ]
 
@@ -38,22 +38,22 @@ module _ {V : Type 0} (e : V) where
   swap-less f g a b [] l = change-below f a (b, g e) [] l ∙ sym (change-above g b (a, f e) [] l)
   swap-less f g a b (p ∷ ps) l =
       elim (cases_order a p.0) [
-        inl q ↦
-          ap (change_at e f a) (change-above g b p ps (omega (arith, l, q)))
-          ∙ change-here f a p (change_at e g b ps) q
-          ∙ sym (change-above g b (a, f p.1) ps l)
-          ∙ ap (change_at e g b) (sym (change-here f a p ps q))
-      | inr c ↦ elim c [
-          inl q ↦
-            first-stays f g a b p ps q l
-            ∙ sym (change-above g b (a, f e) (p ∷ ps) l)
-            ∙ ap (change_at e g b) (sym (change-below f a p ps q))
-        | inr q ↦
+        | inl q ↦
             ap (change_at e f a) (change-above g b p ps (omega (arith, l, q)))
-            ∙ change-above f a p (change_at e g b ps) q
-            ∙ ap (λ xs. p ∷ xs) (swap-less f g a b ps l)
-            ∙ sym (change-above g b p (change_at e f a ps) (omega (arith, l, q)))
-            ∙ ap (change_at e g b) (sym (change-above f a p ps q))
+            ∙ change-here f a p (change_at e g b ps) q
+            ∙ sym (change-above g b (a, f p.1) ps l)
+            ∙ ap (change_at e g b) (sym (change-here f a p ps q))
+        | inr c ↦ elim c [
+          | inl q ↦
+              first-stays f g a b p ps q l
+              ∙ sym (change-above g b (a, f e) (p ∷ ps) l)
+              ∙ ap (change_at e g b) (sym (change-below f a p ps q))
+          | inr q ↦
+              ap (change_at e f a) (change-above g b p ps (omega (arith, l, q)))
+              ∙ change-above f a p (change_at e g b ps) q
+              ∙ ap (λ xs. p ∷ xs) (swap-less f g a b ps l)
+              ∙ sym (change-above g b p (change_at e f a ps) (omega (arith, l, q)))
+              ∙ ap (change_at e g b) (sym (change-above f a p ps q))
         ]
       ]
 
@@ -62,14 +62,14 @@ module _ {V : Type 0} (e : V) where
   change-twice f g a [] = change-here f a (a, g e) [] refl
   change-twice f g a (p ∷ ps) =
       elim (cases_order a p.0) [
-        inl q ↦ ap (change_at e f a) (change-here g a p ps q) ∙ change-here f a (a, g p.1) ps refl ∙ sym (change-here (λ r. f (g r)) a p ps q)
-      | inr c ↦ elim c [
-          inl q ↦ ap (change_at e f a) (change-below g a p ps q) ∙ change-here f a (a, g e) (p ∷ ps) refl ∙ sym (change-below (λ r. f (g r)) a p ps q)
-        | inr q ↦
-            ap (change_at e f a) (change-above g a p ps q)
-            ∙ change-above f a p (change_at e g a ps) q
-            ∙ ap (λ xs. p ∷ xs) (change-twice f g a ps)
-            ∙ sym (change-above (λ r. f (g r)) a p ps q)
+        | inl q ↦ ap (change_at e f a) (change-here g a p ps q) ∙ change-here f a (a, g p.1) ps refl ∙ sym (change-here (λ r. f (g r)) a p ps q)
+        | inr c ↦ elim c [
+          | inl q ↦ ap (change_at e f a) (change-below g a p ps q) ∙ change-here f a (a, g e) (p ∷ ps) refl ∙ sym (change-below (λ r. f (g r)) a p ps q)
+          | inr q ↦
+              ap (change_at e f a) (change-above g a p ps q)
+              ∙ change-above f a p (change_at e g a ps) q
+              ∙ ap (λ xs. p ∷ xs) (change-twice f g a ps)
+              ∙ sym (change-above (λ r. f (g r)) a p ps q)
         ]
       ]
 
@@ -78,10 +78,10 @@ module _ {V : Type 0} (e : V) where
   change-alike f g a [] h = ap (λ v. (a, v) ∷ []) (h e)
   change-alike f g a (p ∷ ps) h =
       elim (cases_order a p.0) [
-        inl q ↦ change-here f a p ps q ∙ ap (λ v. (a, v) ∷ ps) (h p.1) ∙ sym (change-here g a p ps q)
-      | inr c ↦ elim c [
-          inl q ↦ change-below f a p ps q ∙ ap (λ v. (a, v) ∷ p ∷ ps) (h e) ∙ sym (change-below g a p ps q)
-        | inr q ↦ change-above f a p ps q ∙ ap (λ xs. p ∷ xs) (change-alike f g a ps h) ∙ sym (change-above g a p ps q)
+        | inl q ↦ change-here f a p ps q ∙ ap (λ v. (a, v) ∷ ps) (h p.1) ∙ sym (change-here g a p ps q)
+        | inr c ↦ elim c [
+          | inl q ↦ change-below f a p ps q ∙ ap (λ v. (a, v) ∷ p ∷ ps) (h e) ∙ sym (change-below g a p ps q)
+          | inr q ↦ change-above f a p ps q ∙ ap (λ xs. p ∷ xs) (change-alike f g a ps h) ∙ sym (change-above g a p ps q)
         ]
       ]
 
@@ -90,13 +90,13 @@ module _ {V : Type 0} (e : V) where
       → change_at e f a (change_at e g b xs) ≡ change_at e g b (change_at e f a xs)
   change-swap f g a b xs h =
       elim (cases_order a b) [
-        inl q ↦
-          ap (λ n. change_at e f a (change_at e g n xs)) (sym q)
-          ∙ change-twice f g a xs
-          ∙ change-alike (λ r. f (g r)) (λ r. g (f r)) a xs h
-          ∙ sym (change-twice g f a xs)
-          ∙ ap (λ n. change_at e g n (change_at e f a xs)) q
-      | inr c ↦ elim c [ inl q ↦ swap-less f g a b xs q | inr q ↦ sym (swap-less g f b a xs q) ]
+        | inl q ↦
+            ap (λ n. change_at e f a (change_at e g n xs)) (sym q)
+            ∙ change-twice f g a xs
+            ∙ change-alike (λ r. f (g r)) (λ r. g (f r)) a xs h
+            ∙ sym (change-twice g f a xs)
+            ∙ ap (λ n. change_at e g n (change_at e f a xs)) q
+        | inr c ↦ elim c [ inl q ↦ swap-less f g a b xs q | inr q ↦ sym (swap-less g f b a xs q) ]
       ]
 
   -- an addition, where adding to e gives what is added
@@ -115,12 +115,12 @@ map-change h d e f g c [] o s = ap (λ w. (c, w) ∷ []) (s d ∙ ap g o)
 map-change {V = V} {W = W} h d e f g c (p ∷ ps) o s =
     let both : List (ℕ × V) → List (ℕ × W) = map (λ (p : ℕ × V). (p.0, h p.1)) in
     elim (cases_order c p.0) [
-      inl q ↦ ap both (change-here d f c p ps q) ∙ ap (λ w. (c, w) ∷ both ps) (s p.1) ∙ sym (change-here e g c (p.0, h p.1) (both ps) q)
-    | inr b ↦ elim b [
-        inl q ↦ ap both (change-below d f c p ps q) ∙ ap (λ w. (c, w) ∷ both (p ∷ ps)) (s d ∙ ap g o) ∙ sym (change-below e g c (p.0, h p.1) (both ps) q)
-      | inr q ↦
-          ap both (change-above d f c p ps q)
-          ∙ ap (λ ys. (p.0, h p.1) ∷ ys) (map-change h d e f g c ps o s)
-          ∙ sym (change-above e g c (p.0, h p.1) (both ps) q)
+      | inl q ↦ ap both (change-here d f c p ps q) ∙ ap (λ w. (c, w) ∷ both ps) (s p.1) ∙ sym (change-here e g c (p.0, h p.1) (both ps) q)
+      | inr b ↦ elim b [
+        | inl q ↦ ap both (change-below d f c p ps q) ∙ ap (λ w. (c, w) ∷ both (p ∷ ps)) (s d ∙ ap g o) ∙ sym (change-below e g c (p.0, h p.1) (both ps) q)
+        | inr q ↦
+            ap both (change-above d f c p ps q)
+            ∙ ap (λ ys. (p.0, h p.1) ∷ ys) (map-change h d e f g c ps o s)
+            ∙ sym (change-above e g c (p.0, h p.1) (both ps) q)
       ]
     ]

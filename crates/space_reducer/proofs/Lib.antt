@@ -1,5 +1,7 @@
-mod Changed
-mod Ordered
 mod Added
+mod Changed
 mod Folds
+mod MatrixFold
+mod MatrixRuns
+mod Ordered
 mod VectorRuns

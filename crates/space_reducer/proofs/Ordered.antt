@@ -1,5 +1,5 @@
 -- Changes in lists whose coordinates ascend, as an ordered map makes them.
-use Rattle.std.proofs.Common.{◌≡◌, ℕ, ◌<◌, List, [], ◌∷◌, Option, Some, None, cond, false, true, refl, sym, ◌∙◌, ap, subst, inl, inr, arith}
+use Rattle.std.proofs.Common.{◌≡◌, ℕ, ◌<◌, List, [], ◌∷◌, Option, Some, None, cond, refl, sym, ◌∙◌, ap, subst, inl, inr, arith}
 use Rattle.std.proofs.lemmas.Bool.{cases_order}
 use Rattle.std.specs.declared.cmp.Ordering.{Ordering}
 use Rattle.std.specs.declared.cmp.Ordering.TheVariants.{Less, Equal, Greater}
@@ -58,19 +58,19 @@ module _ {V : Type 0} where
       let found : Ordering → Option V = λ o. cond (is_eq o) (Some p.1) (lookup (is_at (nat_cmp c)) ps) in
       let put : Ordering → V → List (ℕ × V) = λ o v. match_ordering o ((c, v) ∷ p ∷ ps) ((p.0, v) ∷ ps) (p ∷ insert_entry nat_cmp ps c v) in
       elim (cases_order c p.0) [
-        inl q ↦
-          ap (λ o. put o (f (unwrap_or (found o) e))) (cmp-equal c p.0 q)
-          ∙ ap (λ n. (n, f p.1) ∷ ps) (sym q)
-          ∙ sym (change-here e f c p ps q)
-      | inr b ↦ elim b [
-          inl q ↦
-            ap (λ o. put o (f (unwrap_or (found o) e))) (cmp-less c p.0 q)
-            ∙ ap (λ o. (c, f (unwrap_or o e)) ∷ p ∷ ps) (lookup-above c ps (above-further c p.0 ps q h.0))
-            ∙ sym (change-below e f c p ps q)
-        | inr q ↦
-            ap (λ o. put o (f (unwrap_or (found o) e))) (cmp-greater c p.0 q)
-            ∙ ap (λ xs. p ∷ xs) (insert-changes e f c ps h.1)
-            ∙ sym (change-above e f c p ps q)
+        | inl q ↦
+            ap (λ o. put o (f (unwrap_or (found o) e))) (cmp-equal c p.0 q)
+            ∙ ap (λ n. (n, f p.1) ∷ ps) (sym q)
+            ∙ sym (change-here e f c p ps q)
+        | inr b ↦ elim b [
+          | inl q ↦
+              ap (λ o. put o (f (unwrap_or (found o) e))) (cmp-less c p.0 q)
+              ∙ ap (λ o. (c, f (unwrap_or o e)) ∷ p ∷ ps) (lookup-above c ps (above-further c p.0 ps q h.0))
+              ∙ sym (change-below e f c p ps q)
+          | inr q ↦
+              ap (λ o. put o (f (unwrap_or (found o) e))) (cmp-greater c p.0 q)
+              ∙ ap (λ xs. p ∷ xs) (insert-changes e f c ps h.1)
+              ∙ sym (change-above e f c p ps q)
         ]
       ]
 
@@ -83,24 +83,24 @@ module _ {V : Type 0} where
       let less : Ordering → List (ℕ × V) = λ o. cond (is_eq o) ps (p ∷ remove_entry (is_at (nat_cmp c)) ps) in
       let both : Ordering → List (ℕ × V) = λ o. insert_entry nat_cmp (less o) c (f (unwrap_or (found o) e)) in
       elim (cases_order c p.0) [
-        inl q ↦
-          let a : Above c ps = subst (λ n. Above n ps) (sym q) h.0 in
-          ap both (cmp-equal c p.0 q) ∙ insert-above c (f p.1) ps a ∙ sym (change-here e f c p ps q)
-      | inr b ↦ elim b [
-          inl q ↦
-            let a : Above c ps = above-further c p.0 ps q h.0 in
-            ap both (cmp-less c p.0 q)
-            ∙ ap (λ xs. insert_entry nat_cmp (p ∷ xs) c (f (unwrap_or (lookup (is_at (nat_cmp c)) ps) e))) (remove-above c ps a)
-            ∙ ap (λ o. insert_entry nat_cmp (p ∷ ps) c (f (unwrap_or o e))) (lookup-above c ps a)
-            ∙ insert-above c (f e) (p ∷ ps) (q, a)
-            ∙ sym (change-below e f c p ps q)
-        | inr q ↦
-            let v : V = f (unwrap_or (lookup (is_at (nat_cmp c)) ps) e) in
-            let less-ps : List (ℕ × V) = remove_entry (is_at (nat_cmp c)) ps in
-            ap both (cmp-greater c p.0 q)
-            ∙ ap (λ o. match_ordering o ((c, v) ∷ p ∷ less-ps) ((p.0, v) ∷ less-ps) (p ∷ insert_entry nat_cmp less-ps c v)) (cmp-greater c p.0 q)
-            ∙ ap (λ xs. p ∷ xs) (replace-changes e f c ps h.1)
-            ∙ sym (change-above e f c p ps q)
+        | inl q ↦
+            let a : Above c ps = subst (λ n. Above n ps) (sym q) h.0 in
+            ap both (cmp-equal c p.0 q) ∙ insert-above c (f p.1) ps a ∙ sym (change-here e f c p ps q)
+        | inr b ↦ elim b [
+          | inl q ↦
+              let a : Above c ps = above-further c p.0 ps q h.0 in
+              ap both (cmp-less c p.0 q)
+              ∙ ap (λ xs. insert_entry nat_cmp (p ∷ xs) c (f (unwrap_or (lookup (is_at (nat_cmp c)) ps) e))) (remove-above c ps a)
+              ∙ ap (λ o. insert_entry nat_cmp (p ∷ ps) c (f (unwrap_or o e))) (lookup-above c ps a)
+              ∙ insert-above c (f e) (p ∷ ps) (q, a)
+              ∙ sym (change-below e f c p ps q)
+          | inr q ↦
+              let v : V = f (unwrap_or (lookup (is_at (nat_cmp c)) ps) e) in
+              let less-ps : List (ℕ × V) = remove_entry (is_at (nat_cmp c)) ps in
+              ap both (cmp-greater c p.0 q)
+              ∙ ap (λ o. match_ordering o ((c, v) ∷ p ∷ less-ps) ((p.0, v) ∷ less-ps) (p ∷ insert_entry nat_cmp less-ps c v)) (cmp-greater c p.0 q)
+              ∙ ap (λ xs. p ∷ xs) (replace-changes e f c ps h.1)
+              ∙ sym (change-above e f c p ps q)
         ]
       ]
 
@@ -109,10 +109,10 @@ module _ {V : Type 0} where
   above-change e f a c (p ∷ ps) l h =
       let P : List (ℕ × V) → Type 0 = Above a in
       elim (cases_order c p.0) [
-        inl q ↦ subst P (sym (change-here e f c p ps q)) (l, h.1)
-      | inr b ↦ elim b [
-          inl q ↦ subst P (sym (change-below e f c p ps q)) (l, h)
-        | inr q ↦ subst P (sym (change-above e f c p ps q)) (h.0, above-change e f a c ps l h.1)
+        | inl q ↦ subst P (sym (change-here e f c p ps q)) (l, h.1)
+        | inr b ↦ elim b [
+          | inl q ↦ subst P (sym (change-below e f c p ps q)) (l, h)
+          | inr q ↦ subst P (sym (change-above e f c p ps q)) (h.0, above-change e f a c ps l h.1)
         ]
       ]
 
@@ -122,10 +122,10 @@ module _ {V : Type 0} where
   ascends-change e f c (p ∷ ps) h =
       let P : List (ℕ × V) → Type 0 = Ascends in
       elim (cases_order c p.0) [
-        inl q ↦ subst P (sym (change-here e f c p ps q)) (subst (λ n. Above n ps) (sym q) h.0, h.1)
-      | inr b ↦ elim b [
-          inl q ↦ subst P (sym (change-below e f c p ps q)) ((q, above-further c p.0 ps q h.0), h)
-        | inr q ↦ subst P (sym (change-above e f c p ps q)) (above-change e f p.0 c ps q h.0, ascends-change e f c ps h.1)
+        | inl q ↦ subst P (sym (change-here e f c p ps q)) (subst (λ n. Above n ps) (sym q) h.0, h.1)
+        | inr b ↦ elim b [
+          | inl q ↦ subst P (sym (change-below e f c p ps q)) ((q, above-further c p.0 ps q h.0), h)
+          | inr q ↦ subst P (sym (change-above e f c p ps q)) (above-change e f p.0 c ps q h.0, ascends-change e f c ps h.1)
         ]
       ]
 
@@ -136,8 +136,8 @@ module _ {V : Type 0} where
     less-than : (a b : ℕ) → nat_cmp a b ≡ Less → a < b
     less-than a b e =
         elim (cases_order a b) [
-          inl q ↦ let d = sym (cmp-equal a b q) ∙ e in absurd (cc)
-        | inr o ↦ elim o [ inl q ↦ q | inr q ↦ let d = sym (cmp-greater a b q) ∙ e in absurd (cc) ]
+          | inl q ↦ let d = sym (cmp-equal a b q) ∙ e in absurd (cc)
+          | inr o ↦ elim o [ inl q ↦ q | inr q ↦ let d = sym (cmp-greater a b q) ∙ e in absurd (cc) ]
         ]
 
   pub ascends-sorted : (xs : List (ℕ × V)) → IsStrictlySortedBy nat_cmp (keys_of xs) → Ascends xs

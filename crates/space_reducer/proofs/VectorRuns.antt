@@ -1,5 +1,5 @@
 -- A new vector reducer makes the moves of its kind.
-use Rattle.std.proofs.Common.{◌≡◌, ℕ, zero, suc, pred, List, [], ◌∷◌, Some, None, refl, sym, ◌∙◌, ap, subst}
+use Rattle.std.proofs.Common.{◌≡◌, ℕ, suc, pred, List, [], ◌∷◌, Some, None, refl, sym, ◌∙◌, subst}
 use Rattle.stream_tokens.specs.declared.Token.TheVariants.{Stop}
 use Rattle.stream_tokens.specs.Nest.{Leaf, Fiber}
 use Rattle.stream_tokens.specs.Shapes.{Positive}
@@ -44,7 +44,7 @@ whole_piece_run : (stop : ℕ) (xss : List (List (ℕ × Leaf))) (rest : List Mo
     → Runs vector_steps (keeping []) (piece_takes (suc stop) xss (put_pairs (vector_sum xss) (put_two (Stop stop) rest)))
 whole_piece_run stop xss rest h =
     let P : List (ℕ × Leaf) → Type 0 =
-      λ ps. Runs vector_steps (next_put [] stop ps) (put_pairs (vector_sum xss) (put_two (Stop stop) rest)) in
+    λ ps. Runs vector_steps (next_put [] stop ps) (put_pairs (vector_sum xss) (put_two (Stop stop) rest)) in
     let e : from_left add_pairs [] xss ≡ vector_sum xss = by-pieces add_pair [] xss ∙ added-gathers (all_of xss) in
     piece_run stop xss [] _ (subst P (sym e) (flush_run stop (vector_sum xss) rest h))
 

@@ -1,2 +1,3 @@
+pub mod MatrixSteps
 pub mod ValueOf
 pub mod VectorSteps

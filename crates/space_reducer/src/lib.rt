@@ -3,7 +3,9 @@
 //! Both keep coordinates with sums in ordered maps, so that what they put ascends.
 #![tactic(auto)]
 
+mod matrix;
 mod sums;
 mod vector;
 
+pub use matrix::MatrixReducer;
 pub use vector::VectorReducer;
