@@ -1,2 +1,4 @@
 pub mod DropValueRuns
 pub mod DropFiberRuns
+pub mod FillRows
+pub mod FillRuns
