@@ -31,16 +31,16 @@ heads_run : (w : ℕ) (s : Serving) (rest : List Move) → w ≤ 8
 heads_run w s rest b go [] held l =
     head_run w (stop_at s) rest b
     (λ held' l' k.
-      let P : Token → Type 0 = λ t. Runs fill_steps (at w held' (after_head t)) rest in
-      subst P (sym (k 0 (omega arith))) (go held' l'))
+    let P : Token → Type 0 = λ t. Runs fill_steps (at w held' (after_head t)) rest in
+    subst P (sym (k 0 (omega arith))) (go held' l'))
     w 0 held (omega arith) l (λ j c. absurd (omega arith))
 heads_run w s rest b go (h ∷ hs) held l =
     let x : ℕ → Token = λ p. number_at p h in
     let after : List Move = more_moves (suc w) hs (take_row 1 (across (stop_at s) 0 (suc w)) rest) in
     head_run w x _ b
     (λ held' l' k.
-      let P : Token → Type 0 = λ t. Runs fill_steps (at w held' (after_head t)) (put_row 0 (over x 0 (suc w)) after) in
-      subst P (sym (k 0 (omega arith))) (row_run w held' x after w 0 (omega arith) k (heads_run w s rest b go hs held' l')))
+    let P : Token → Type 0 = λ t. Runs fill_steps (at w held' (after_head t)) (put_row 0 (over x 0 (suc w)) after) in
+    subst P (sym (k 0 (omega arith))) (row_run w held' x after w 0 (omega arith) k (heads_run w s rest b go hs held' l')))
     w 0 held (omega arith) l (λ j c. absurd (omega arith))
 
 serve_run : (w : ℕ) (s : Serving) (rest : List Move) → w ≤ 8

@@ -2,3 +2,4 @@ pub mod DropValueRuns
 pub mod DropFiberRuns
 pub mod FillRows
 pub mod FillRuns
+pub mod Worked
