@@ -5,7 +5,7 @@ use Rattle.std.proofs.Math.ListN.{length-set}
 use Rattle.stream_tokens.specs.declared.Token.{Token}
 use Rattle.stream_tokens.specs.declared.Token.TheVariants.{Item, Empty, Stop, Done}
 use Rattle.block_core.specs.declared.Wish.TheVariants.{Take, Put}
-use Rattle.block_core.specs.Move.{Move, Taking, over, take_row, put_row}
+use Rattle.block_core.specs.Move.{Move, over, take_row, put_row}
 use Rattle.block_core.specs.Fill.{take_stops, past_takes}
 use Rattle.block_core.specs.Runs.{Runs}
 use Rattle.shape_blocks.specs.declared.fill_state.Then.{Then}

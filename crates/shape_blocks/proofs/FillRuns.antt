@@ -1,25 +1,24 @@
 -- A new filler makes the moves of its kind.
-use Rattle.std.proofs.Common.{◌≡◌, ℕ, zero, suc, pred, ◌+◌, ◌<◌, ◌≤◌, ◌^◌, min, Bool, true, false, List, [], ◌∷◌, length, slice_get, get_or, replicate, Some, None, refl, sym, ap, subst, arith}
+use Rattle.std.proofs.Common.{◌≡◌, ℕ, suc, ◌+◌, ◌<◌, ◌≤◌, Bool, true, false, List, [], ◌∷◌, length, slice_get, get_or, replicate, Some, None, refl, sym, subst, arith}
 use Rattle.stream_tokens.specs.declared.Token.{Token}
-use Rattle.stream_tokens.specs.declared.Token.TheVariants.{Item, Empty, Stop, Done}
+use Rattle.stream_tokens.specs.declared.Token.TheVariants.{Empty, Stop, Done}
 use Rattle.stream_tokens.specs.Nest.{Fiber}
 use Rattle.stream_tokens.specs.Flat.{written, flat}
 use Rattle.stream_tokens.specs.Shapes.{Positive}
 use Rattle.stream_tokens.proofs.Ending.{EndsWithin, IsStream-ends}
 use Rattle.block_core.specs.Move.{Move, Taking, Putting, across, over, take_row, put_row, put_all}
 use Rattle.block_core.specs.Ports.{Streams, AllStreams}
-use Rattle.block_core.specs.Fill.{Serving, Place, Filling, mark, number_at, stop_at, skips_at, tail_at, opened_all, past_takes, head_row, more_moves, serve, fill_places, fill_moves, port_streams}
+use Rattle.block_core.specs.Fill.{Serving, Place, Filling, mark, number_at, stop_at, skips_at, tail_at, opened_all, more_moves, serve, fill_places, fill_moves, port_streams}
 use Rattle.block_core.specs.Kind.{FillKind, Fits, moves, reading}
 use Rattle.block_core.specs.Runs.{Runs}
 use Rattle.block_core.specs.Stands.{Stands}
 use Rattle.block_core.proofs.Standing.{stands_start, stands_take, stands_put}
 use Rattle.shape_blocks.specs.declared.fill_state.Then.{Then}
 use Rattle.shape_blocks.specs.declared.fill_state.Then.TheVariants.{Resume, Seek, End}
-use Rattle.shape_blocks.specs.declared.fill_state.Stage.{Stage}
-use Rattle.shape_blocks.specs.declared.fill_state.Stage.TheVariants.{Presence, Spreading, Seeking, Putting, Head, Draining}
+use Rattle.shape_blocks.specs.declared.fill_state.Stage.TheVariants.{Presence, Spreading, Seeking, Putting, Head}
 use Rattle.shape_blocks.specs.declared.fill_state.FillState.{FillState}
 use Rattle.shape_blocks.specs.FillSteps.{stage_after, opened, raised, after_head, new_state, fill_steps}
-use Rattle.shape_blocks.proofs.FillRows.{at, Holds, spread_run, row_run, head_run, seek_run, drain_run}
+use Rattle.shape_blocks.proofs.FillRows.{at, spread_run, row_run, head_run, seek_run, drain_run}
 
 -- ---- what an item of the presence is served
 

@@ -1,6 +1,5 @@
 -- What the block functions give on worked rows.
-use Rattle.std.proofs.Common.{◌≡◌, List, [], ◌∷◌, refl}
-use Rattle.stream_tokens.specs.declared.Token.{Token}
+use Rattle.std.proofs.Common.{◌≡◌, [], ◌∷◌, refl}
 use Rattle.stream_tokens.specs.declared.Token.TheVariants.{Item, Empty, Stop, Done}
 use Rattle.block_core.specs.Kind.{DropValueKind, DropFiberKind, FillKind, outputs}
 
