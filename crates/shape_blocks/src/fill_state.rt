@@ -58,6 +58,23 @@ fn after_token(more: bool, then: Then) -> Stage
     }
 }
 
+/// What follows a token of the presence. The stops of a stream are far below the greatest number.
+#[inline]
+fn after_presence(more: bool, t: Token) -> Stage
+    ensures { result ≡ presence_took more t }
+{
+    match t {
+        Token::Item(_) => after_token(more, Then::Seek),
+        Token::Empty => after_token(more, Then::Resume(true)),
+        Token::Stop(n) => Stage::Spreading(
+            Token::Stop(n.saturating_add(1)),
+            0,
+            Then::Resume(false),
+        ),
+        Token::Done => Stage::Draining(0),
+    }
+}
+
 impl FillState {
     pub fn new(payloads: u32) -> FillState
         requires payloads { payloads ≤ 8 }
@@ -87,23 +104,6 @@ impl FillState {
         }
     }
 
-    /// What follows a token of the presence. The stops of a stream are far below the greatest number.
-    #[inline]
-    fn after_presence(more: bool, t: Token) -> Stage
-        ensures { result ≡ presence_took more t }
-    {
-        match t {
-            Token::Item(_) => after_token(more, Then::Seek),
-            Token::Empty => after_token(more, Then::Resume(true)),
-            Token::Stop(n) => Stage::Spreading(
-                Token::Stop(n.saturating_add(1)),
-                0,
-                Then::Resume(false),
-            ),
-            Token::Done => Stage::Draining(0),
-        }
-    }
-
     #[inline]
     pub fn took(&mut self, t: Token)
         requires within { IsWithin self.old }
@@ -112,7 +112,7 @@ impl FillState {
         ensures within { IsWithin self.new }
     {
         match self.stage {
-            Stage::Presence(more) => self.stage = FillState::after_presence(more, t),
+            Stage::Presence(more) => self.stage = after_presence(more, t),
             Stage::Seeking(port) => self.found(port, t),
             Stage::Head(port) => self.headed(port, t),
             Stage::Draining(port) => self.drained(port, t),
