@@ -1,2 +1,5 @@
 pub mod DropValueRuns
 pub mod DropFiberRuns
+pub mod FillRows
+pub mod FillRuns
+pub mod Worked

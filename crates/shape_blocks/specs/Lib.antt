@@ -1,2 +1,3 @@
 pub mod DropValueSteps
 pub mod DropFiberSteps
+pub mod FillSteps

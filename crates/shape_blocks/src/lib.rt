@@ -7,6 +7,11 @@
 
 mod drop_fiber;
 mod drop_value;
+mod fill;
+mod fill_state;
+#[cfg(test)]
+mod tests;
 
 pub use drop_fiber::FiberDropper;
 pub use drop_value::ValueDropper;
+pub use fill::Filler;
