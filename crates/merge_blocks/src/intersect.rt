@@ -24,7 +24,7 @@ pub struct Intersecter {
 }
 
 impl Intersecter {
-    /// An intersecter of sides with so many payloads, at most eight together.
+    /// An intersecter of sides with so many payloads, which may be none, and at most eight together.
     pub fn new(left: u32, right: u32) -> Intersecter
         requires payloads { left + right ≤ 8 }
         ensures same_kind { ⟦<Intersecter as BlockStep>⟧.kind result ≡ IntersectKind left right }

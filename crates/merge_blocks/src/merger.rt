@@ -28,13 +28,16 @@ pub enum Stage {
     Ended,
 }
 
-/// Two sides, of which the heads are held, a token for each input port.
+/// Two sides, of which the heads are held.
 #[derive(Clone, Copy)]
 pub struct Merger {
+    /// Whether the coordinates of one side alone are put too.
     unites: bool,
+    /// The number of payloads of each side.
     left: u32,
     right: u32,
     stage: Stage,
+    /// The token last taken at each input port: the left head, then the right.
     tokens: [Token; PORTS],
 }
 

@@ -25,7 +25,7 @@ pub struct Unioner {
 }
 
 impl Unioner {
-    /// A unioner of sides with so many payloads, at most eight together.
+    /// A unioner of sides with so many payloads, which may be none, and at most eight together.
     pub fn new(left: u32, right: u32) -> Unioner
         requires payloads { left + right ≤ 8 }
         ensures same_kind { ⟦<Unioner as BlockStep>⟧.kind result ≡ UnionKind left right }
