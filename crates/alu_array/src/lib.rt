@@ -11,3 +11,6 @@ pub use constants::Constant;
 pub use operation::{Op, combine};
 pub use origin::Root;
 pub use unit::Alu;
+
+#[cfg(test)]
+mod tests;

@@ -33,9 +33,11 @@ give_run : (outs more port first : ℕ) (t : Token) (rest : List Move) → port 
     → Runs (cast_steps outs) (Giving t port) (put_row port (across (λ _. t) first (suc more)) rest)
 give_run outs zero port first t rest e h =
     (refl, subst (λ (x : CastState). Runs (cast_steps outs) x rest) (sym (last_put outs port t (omega (arith, e)))) h)
-give_run outs (suc more) port first t rest e h =
-    (refl, subst (λ (x : CastState). Runs (cast_steps outs) x (put_row (port + 1) (across (λ _. t) (suc first) (suc more)) rest))
-      (sym (next_put outs port t (omega (arith, e)))) (give_run outs more (port + 1) (suc first) t rest (omega (arith, e)) h))
+give_run outs (suc more) port first t rest e h = (
+  refl,
+  subst (λ (x : CastState). Runs (cast_steps outs) x (put_row (port + 1) (across (λ _. t) (suc first) (suc more)) rest))
+      (sym (next_put outs port t (omega (arith, e)))) (give_run outs more (port + 1) (suc first) t rest (omega (arith, e)) h),
+)
 
 took_run : (outs : ℕ) (t : Token) (rest : List Move) → Runs (cast_steps outs) (after_token t) rest
     → Runs (cast_steps outs) ((cast_steps outs).took Wanting t) (put_row 0 (across (λ _. t) 0 outs) rest)
