@@ -1,11 +1,11 @@
 -- A new broadcast makes the moves of its kind.
-use Rattle.std.proofs.Common.{◌≡◌, ◌<◌, ◌≤◌, ◌+◌, ◌-◌, ℕ, zero, suc, List, [], ◌∷◌, refl, sym, ap, ◌∙◌, subst, arith, true, false}
+use Rattle.std.proofs.Common.{◌≡◌, ◌<◌, ◌+◌, ◌-◌, ℕ, zero, suc, List, [], ◌∷◌, refl, sym, subst, arith, true, false}
 use Rattle.std.specs.Prelude.{nat_lt}
 use Rattle.std.proofs.lemmas.Bool.Decides.{nat_tests}
 use Rattle.stream_tokens.specs.declared.Token.{Token}
 use Rattle.stream_tokens.specs.declared.Token.TheVariants.{Item, Empty, Stop, Done}
 use Rattle.stream_tokens.proofs.Ending.{EndsWithin, IsStream-ends}
-use Rattle.block_core.specs.Move.{Move, Putting, across, put_row}
+use Rattle.block_core.specs.Move.{Move, across, put_row}
 use Rattle.block_core.specs.Cast.{cast_moves}
 use Rattle.block_core.specs.Ports.{Streams, AllStreams, port}
 use Rattle.block_core.specs.Kind.{CastKind, Fits}
