@@ -1,3 +1,4 @@
 mod AluRuns
 mod ChangeRuns
 mod RootRuns
+mod InRange

@@ -3,11 +3,16 @@
 
 mod change;
 mod constants;
+mod lookup;
 mod operation;
 mod origin;
 mod unit;
 
 pub use constants::Constant;
+pub use lookup::Array;
 pub use operation::{Op, combine};
 pub use origin::Root;
 pub use unit::Alu;
+
+#[cfg(test)]
+mod tests;

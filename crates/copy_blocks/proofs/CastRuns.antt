@@ -1,11 +1,11 @@
 -- A new broadcast makes the moves of its kind.
-use Rattle.std.proofs.Common.{◌≡◌, ◌<◌, ◌≤◌, ◌+◌, ◌-◌, ℕ, zero, suc, List, [], ◌∷◌, refl, sym, ap, ◌∙◌, subst, arith, true, false}
+use Rattle.std.proofs.Common.{◌≡◌, ◌<◌, ◌+◌, ◌-◌, ℕ, zero, suc, List, [], ◌∷◌, refl, sym, subst, arith, true, false}
 use Rattle.std.specs.Prelude.{nat_lt}
 use Rattle.std.proofs.lemmas.Bool.Decides.{nat_tests}
 use Rattle.stream_tokens.specs.declared.Token.{Token}
 use Rattle.stream_tokens.specs.declared.Token.TheVariants.{Item, Empty, Stop, Done}
 use Rattle.stream_tokens.proofs.Ending.{EndsWithin, IsStream-ends}
-use Rattle.block_core.specs.Move.{Move, Putting, across, put_row}
+use Rattle.block_core.specs.Move.{Move, across, put_row}
 use Rattle.block_core.specs.Cast.{cast_moves}
 use Rattle.block_core.specs.Ports.{Streams, AllStreams, port}
 use Rattle.block_core.specs.Kind.{CastKind, Fits}
@@ -33,9 +33,11 @@ give_run : (outs more port first : ℕ) (t : Token) (rest : List Move) → port 
     → Runs (cast_steps outs) (Giving t port) (put_row port (across (λ _. t) first (suc more)) rest)
 give_run outs zero port first t rest e h =
     (refl, subst (λ (x : CastState). Runs (cast_steps outs) x rest) (sym (last_put outs port t (omega (arith, e)))) h)
-give_run outs (suc more) port first t rest e h =
-    (refl, subst (λ (x : CastState). Runs (cast_steps outs) x (put_row (port + 1) (across (λ _. t) (suc first) (suc more)) rest))
-      (sym (next_put outs port t (omega (arith, e)))) (give_run outs more (port + 1) (suc first) t rest (omega (arith, e)) h))
+give_run outs (suc more) port first t rest e h = (
+  refl,
+  subst (λ (x : CastState). Runs (cast_steps outs) x (put_row (port + 1) (across (λ _. t) (suc first) (suc more)) rest))
+      (sym (next_put outs port t (omega (arith, e)))) (give_run outs more (port + 1) (suc first) t rest (omega (arith, e)) h),
+)
 
 took_run : (outs : ℕ) (t : Token) (rest : List Move) → Runs (cast_steps outs) (after_token t) rest
     → Runs (cast_steps outs) ((cast_steps outs).took Wanting t) (put_row 0 (across (λ _. t) 0 outs) rest)

@@ -62,7 +62,10 @@ impl CastState {
         ensures { result ≡ (cast_steps outs).put self }
     {
         match self {
-            CastState::Giving(t, port) if port < outs.saturating_sub(1) => CastState::Giving(t, port + 1),
+            CastState::Giving(t, port) if port < outs.saturating_sub(1) => CastState::Giving(
+                t,
+                port + 1,
+            ),
             CastState::Giving(t, _) => CastState::after(t),
             other => other,
         }

@@ -9,6 +9,5 @@ pub use cast::Broadcast;
 pub use repeat::Repeater;
 pub use sink::Drain;
 
-
 #[cfg(test)]
 mod tests;

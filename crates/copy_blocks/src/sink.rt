@@ -99,8 +99,7 @@ impl BlockStep for Drain {
         ensures same_kind { ⟦<Drain as BlockStep>⟧.kind self.new ≡ ⟦<Drain as BlockStep>⟧.kind self.old }
         ensures same_refusal { ⟦<Drain as BlockStep>⟧.may_refuse self.new ≡ ⟦<Drain as BlockStep>⟧.may_refuse self.old }
         ensures moved { (s : Streams) (n : ℕ) (port : ℕ) (t : Token) → ⟦<Drain as BlockStep>⟧.stands self.old s n → slice_get (moves DrainKind s) n ≡ Some (Putting port t) → ⟦<Drain as BlockStep>⟧.stands self.new s (n + 1) }
-    {
-    }
+    {}
 
     ghost stands_fits = { λ b s n h. h.fits };
 

@@ -2,69 +2,43 @@
 
 use crate::{Broadcast, Drain, Repeater};
 use block_core::{BlockStep, Wish};
-use std::alloc::{AllocError, Global};
+use std::alloc::Global;
 use std::test::Fail;
-use stream_tokens::{Stream, Token};
+use stream_tokens::Token::{self, Done, Empty, Item, Stop};
 
-/// The token that is printed so: a number, `N`, `S` and a level, or `D`.
-fn token(word: &str) -> Option<Token> {
-    match word {
-        "N" => Some(Token::Empty),
-        "D" => Some(Token::Done),
-        _ => match word.strip_prefix('S') {
-            Some(level) => level.parse().ok().map(Token::Stop),
-            None => word.parse().ok().map(Token::Item),
-        },
-    }
-}
-
-/// The stream of a text.
-fn stream(alloc: Global, text: &str) -> Result<Stream, AllocError> {
-    let mut tokens = Stream::new(alloc);
-    for word in text.split(' ') {
-        if let Some(t) = token(word) {
-            tokens.push(t)?;
-        }
-    }
-    Ok(tokens)
-}
-
-/// The two ends of a block that runs alone: whole streams for its inputs, and what it puts on its outputs.
+/// The two ends of a block that runs alone: what is left of its whole inputs, and what it put on which output.
 #[derive(Drop)]
-struct Ends {
-    ins: [Stream; 2],
-    taken: [usize; 2],
-    outs: [Stream; 3],
+struct Ends<'a> {
+    left: [&'a [Token]; 2],
+    puts: Vec<(u32, Token)>,
 }
 
-impl Ends {
-    fn new(alloc: Global, ins: [&str; 2]) -> Result<Ends, AllocError> {
-        Ok(Ends {
-            ins: [stream(alloc, ins[0])?, stream(alloc, ins[1])?],
-            taken: [0, 0],
-            outs: [Stream::new(alloc), Stream::new(alloc), Stream::new(alloc)],
-        })
+impl<'a> Ends<'a> {
+    fn new(ins: [&'a [Token]; 2], alloc: Global) -> Ends<'a> {
+        Ends {
+            left: ins,
+            puts: Vec::new(alloc),
+        }
     }
 
     fn next(&mut self, port: u32) -> Option<Token> {
-        let at = self.taken.get_mut(port as usize)?;
-        let t = *self.ins.get(port as usize)?.as_slice().get(*at)?;
-        *at = at.checked_add(1)?;
-        Some(t)
+        let stream = self.left.get_mut(port as usize)?;
+        let (first, rest) = stream.split_first()?;
+        *stream = rest;
+        Some(*first)
     }
 
-    fn keep(&mut self, port: u32, t: Token) -> Result<(), Fail> {
-        self.outs.get_mut(port as usize).ok_or("no such output")?.push(t)?;
-        Ok(())
-    }
-
-    /// Whether all inputs were taken to their ends, and this was put.
-    fn end_with(&self, outs: [&str; 3], alloc: Global) -> Result<bool, AllocError> {
-        let mut ended = true;
-        for (out, want) in self.outs.iter().zip(outs) {
-            ended = ended && out.as_slice() == stream(alloc, want)?.as_slice();
+    /// Whether the inputs are through, and each of these tokens was put on each output in turn.
+    fn end_with(&self, outs: u32, want: &[Token]) -> bool {
+        let mut puts = self.puts.iter();
+        for t in want {
+            for port in 0..outs {
+                if puts.next() != Some(&(port, *t)) {
+                    return false;
+                }
+            }
         }
-        Ok(ended && self.taken == [self.ins[0].len(), self.ins[1].len()])
+        puts.next().is_none() && self.left.iter().all(|stream| stream.is_empty())
     }
 }
 
@@ -75,7 +49,7 @@ macro_rules! run {
             match $block.wish() {
                 Wish::Take(port) => $block.take(port, $ends.next(port).ok_or("no token is left")?)?,
                 Wish::Put(port, t) => {
-                    $ends.keep(port, t)?;
+                    $ends.puts.push((port, t))?;
                     $block.did_put();
                 }
                 Wish::Finished => break,
@@ -84,53 +58,76 @@ macro_rules! run {
     };
 }
 
-fn repeat(inner: &str, outer: &str, alloc: Global) -> Result<Ends, Fail> {
+fn repeats(ins: [&[Token]; 2], want: &[Token], alloc: Global) -> Result<bool, Fail> {
     let mut block = Repeater::new();
-    let mut ends = Ends::new(alloc, [inner, outer])?;
+    let mut ends = Ends::new(ins, alloc);
     run!(block, ends);
-    Ok(ends)
+    Ok(ends.end_with(1, want))
 }
 
-fn copy(outs: u32, text: &str, alloc: Global) -> Result<Ends, Fail> {
+fn copies(outs: u32, given: &[Token], alloc: Global) -> Result<bool, Fail> {
     let mut block = Broadcast::new(outs);
-    let mut ends = Ends::new(alloc, [text, ""])?;
+    let mut ends = Ends::new([given, &[]], alloc);
     run!(block, ends);
-    Ok(ends)
+    Ok(ends.end_with(outs, given))
 }
 
-fn drain(text: &str, alloc: Global) -> Result<Ends, Fail> {
+fn drains(given: &[Token], alloc: Global) -> Result<bool, Fail> {
     let mut block = Drain::new();
-    let mut ends = Ends::new(alloc, [text, ""])?;
+    let mut ends = Ends::new([given, &[]], alloc);
     run!(block, ends);
-    Ok(ends)
+    Ok(ends.end_with(0, given))
 }
 
 #[test]
-fn repeats(rt: HostRuntime) -> Result<(), Fail> {
-    let rows = [
-        ("0 2 S0 1 S1 D", "5 N S0 D", "5 5 S0 N S1 D"),
-        ("S0 3 S1 D", "4 7 S0 D", "S0 7 S1 D"),
-        ("5 6 S1 7 S2 D", "1 S0 2 S1 D", "1 1 S1 2 S2 D"),
-        ("S1 S1 9 S2 D", "S0 S0 8 S1 D", "S1 S1 8 S2 D"),
-        ("1 2 S0 D", "0 D", "0 0 S0 D"),
-        ("S0 D", "N D", "S0 D"),
-        ("S1 D", "S0 D", "S1 D"),
+fn repeater_runs(rt: HostRuntime) -> Result<(), Fail> {
+    let rows: [([&[Token]; 2], &[Token]); 6] = [
+        (
+            [
+                &[Item(0), Item(2), Stop(0), Item(1), Stop(1), Done],
+                &[Item(5), Empty, Stop(0), Done],
+            ],
+            &[Item(5), Item(5), Stop(0), Empty, Stop(1), Done],
+        ),
+        (
+            [
+                &[Stop(0), Item(3), Stop(1), Done],
+                &[Item(4), Item(7), Stop(0), Done],
+            ],
+            &[Stop(0), Item(7), Stop(1), Done],
+        ),
+        (
+            [
+                &[Stop(1), Item(6), Stop(1), Item(7), Stop(2), Done],
+                &[Stop(0), Item(1), Stop(0), Item(2), Stop(1), Done],
+            ],
+            &[Stop(1), Item(1), Stop(1), Item(2), Stop(2), Done],
+        ),
+        (
+            [&[Item(1), Item(2), Stop(0), Done], &[Item(0), Done]],
+            &[Item(0), Item(0), Stop(0), Done],
+        ),
+        ([&[Stop(0), Done], &[Empty, Done]], &[Stop(0), Done]),
+        ([&[Stop(1), Done], &[Stop(0), Done]], &[Stop(1), Done]),
     ];
-    for (inner, outer, want) in rows {
-        let ends = repeat(inner, outer, rt.alloc())?;
-        assert!(rt; ends.end_with([want, "", ""], rt.alloc())?, "{inner} beneath {outer}");
+    for (n, (ins, want)) in rows.into_iter().enumerate() {
+        assert!(rt; repeats(ins, want, rt.alloc())?, "row {n}");
     }
     Ok(())
 }
 
 #[test]
-fn copies_and_drains(rt: HostRuntime) -> Result<(), Fail> {
-    for text in ["0 D", "N D", "S0 D", "1 N S0 S0 4 S1 D"] {
-        let rows = [["", "", ""], [text, "", ""], [text, text, ""], [text, text, text]];
-        for (count, want) in rows.into_iter().enumerate() {
-            assert!(rt; copy(count as u32, text, rt.alloc())?.end_with(want, rt.alloc())?, "{text} to {count}");
+fn broadcast_and_drain_run(rt: HostRuntime) -> Result<(), Fail> {
+    let rows: [&[Token]; 3] = [
+        &[Item(0), Done],
+        &[Stop(0), Done],
+        &[Item(1), Empty, Stop(0), Stop(0), Item(4), Stop(1), Done],
+    ];
+    for given in rows {
+        for outs in 0..4 {
+            assert!(rt; copies(outs, given, rt.alloc())?, "{given:?} to {outs}");
         }
-        assert!(rt; drain(text, rt.alloc())?.end_with(["", "", ""], rt.alloc())?, "{text}");
+        assert!(rt; drains(given, rt.alloc())?, "{given:?}");
     }
     Ok(())
 }
@@ -141,7 +138,10 @@ fn is_send<B: Send + Drop>(_block: B) {}
 fn ports(rt: HostRuntime) {
     let (repeater, broadcast, drain) = (Repeater::new(), Broadcast::new(5), Drain::new());
     assert_eq!(rt; [repeater.ins(), broadcast.ins(), drain.ins()], [2, 1, 1]);
-    assert_eq!(rt; [repeater.outs(), broadcast.outs(), drain.outs()], [1, 5, 0]);
+    assert_eq!(rt;
+        [repeater.outs(), broadcast.outs(), drain.outs()],
+        [1, 5, 0]
+    );
     is_send(repeater);
     is_send(broadcast);
     is_send(drain);

@@ -1,0 +1,52 @@
+-- Each reference that an array takes is one of its tensor's.
+use Rattle.std.proofs.Common.{◌≡◌, ◌<◌, ℕ, zero, suc, List, [], ◌∷◌, length, slice_get, Some, sym, subst}
+use Rattle.std.proofs.Math.Logic.{∥∥₁_elim}
+use denote.Struct.Props.{props}
+use Rattle.stream_tokens.specs.declared.Token.{Token}
+use Rattle.stream_tokens.specs.declared.Token.TheVariants.{Item, Empty, Stop, Done}
+use Rattle.block_core.specs.Move.{Move, Taking, Putting}
+use Rattle.block_core.specs.Change.{ItemsBelow, value_at, change_moves}
+use Rattle.block_core.specs.Ports.{Streams, port}
+use Rattle.block_core.specs.Kind.{ArrayKind, moves}
+use Rattle.block_core.specs.Stands.{Stands}
+use Rattle.block_core.specs.Runs.{Runs}
+use Rattle.block_core.specs.Steps.{MayTake}
+use Rattle.alu_array.specs.ChangeSteps.{change_steps}
+use Rattle.alu_array.specs.declared.change.ChangeState.{ChangeState}
+
+below_first : (n : ℕ) (t : Token) (s : List Token) → ItemsBelow n (t ∷ s) → ItemsBelow n (t ∷ [])
+below_first n (Item r) s h = (h.0, tt)
+below_first n Empty s h = tt
+below_first n (Stop k) s h = tt
+below_first n Done s h = tt
+
+below_rest : (n : ℕ) (t : Token) (s : List Token) → ItemsBelow n (t ∷ s) → ItemsBelow n s
+below_rest n (Item r) s h = h.1
+below_rest n Empty s h = h
+below_rest n (Stop k) s h = h
+below_rest n Done s h = h
+
+
+taken_below : (n : ℕ) (f : ℕ → ℕ) (s : List Token) (k p : ℕ) (t : Token)
+    → ItemsBelow n s → slice_get (change_moves f s) k ≡ Some (Taking p t) → ItemsBelow n (t ∷ [])
+taken_below n f [] k p t h at = absurd (cc)
+taken_below n f (u ∷ s) zero p t h at =
+    let same : u ≡ t = cc in
+    subst (λ (x : Token). ItemsBelow n (x ∷ [])) same (below_first n u s h)
+taken_below n f (u ∷ s) (suc zero) p t h at = absurd (cc)
+taken_below n f (u ∷ s) (suc (suc k)) p t h at = taken_below n f s k p t (below_rest n u s h) at
+
+below_prop : (n : ℕ) (t : Token) → IsProp (ItemsBelow n (t ∷ []))
+below_prop n (Item r) = hlevel props
+below_prop n Empty = hlevel
+below_prop n (Stop k) = hlevel
+below_prop n Done = hlevel
+
+
+-- where an array may take a token, a reference is in range
+pub may_take_below : (values : List ℕ) (state : ChangeState) (p : ℕ) (t : Token)
+    → MayTake (Stands (Runs (change_steps (value_at values)) state) (ArrayKind values)) (ArrayKind values) p t
+    → ItemsBelow (length values) (t ∷ [])
+may_take_below values state p t may =
+    ∥∥₁_elim may (below_prop (length values) t)
+      (λ at. taken_below (length values) (value_at values) (port 0 at.0) at.1 p t at.2.fits.well at.3)
