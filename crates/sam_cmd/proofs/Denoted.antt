@@ -1,5 +1,5 @@
 -- What a product of two vectors denotes is what is written of it.
-use Rattle.std.proofs.Common.{◌≡◌, ℕ, zero, suc, ◌+◌, ◌*◌, ◌%◌, ◌^◌, ◌<◌, ◌≤◌, Bool, true, false, cond, ◌&&◌, ◌||◌, List, [], ◌∷◌, length, refl, sym, ap, ◌∙◌, arith, add-zero, ltb}
+use Rattle.std.proofs.Common.{◌≡◌, ℕ, zero, suc, ◌+◌, ◌*◌, ◌%◌, ◌^◌, ◌<◌, ◌≤◌, Bool, true, false, cond, ◌&&◌, ◌||◌, List, [], ◌∷◌, length, refl, sym, ap, ◌∙◌, arith, add-zero, ltb, leb}
 use Rattle.std.specs.List.{filter, flat_map, list_all, range_with_len, zip}
 use Rattle.std.proofs.Math.Nat.{mod-mod, mul-one}
 use Rattle.std.proofs.lemmas.Bool.Decides.{nat_tests}
@@ -14,8 +14,9 @@ use Rattle.sam_model.specs.Children.{Ranked, ranked}
 use Rattle.sam_model.proofs.OneLevel.{one_level, one-level-range, one-level-listing, one_path}
 use Rattle.sam_cmd.specs.Form.{TwoVectors, program_of}
 use Rattle.sam_cmd.specs.Answers.{left_tensor, right_tensor}
-use Rattle.sam_cmd.specs.Product.{product_written}
-use Rattle.sam_cmd.proofs.VectorStored.{one, stored-here, shared-coordinates, product-at, product-is}
+use Rattle.sam_base.specs.declared.TheConstants.{DIMENSION_MOST}
+use Rattle.sam_cmd.specs.Product.{IsVector, product_written}
+use Rattle.sam_cmd.proofs.VectorStored.{one, stored-here, shared-coordinates, product-at, product-is, is-vector}
 
 -- the tests and the values of one term, without what adds nothing
 and-alone : (p q : Bool) → ((p && (q && true)) || false) || false ≡ p && q
@@ -108,3 +109,18 @@ module _ (v : TwoVectors) (l r : Entries) where
 
   pub paths-within : list_all {X = List ℕ × ℕ} (λ entry. within (v.size ∷ []) entry.0) (listing (one_level zs (map numbers zs))) ≡ true
   paths-within = rw listing-is (within-range numbers _ v.size 0 v.size (omega arith))
+
+  pub left-vector : IsVector (ranked (stored_as (left_tensor v) l))
+  left-vector = is-vector v.size lefts
+
+  pub right-vector : IsVector (ranked (stored_as (right_tensor v) r))
+  right-vector = is-vector v.size rights
+
+  pub written-of :
+      (a b : Ranked) → a ≡ ranked (stored_as (left_tensor v) l) → b ≡ ranked (stored_as (right_tensor v) r) →
+      product_written a b ≡ one_level zs (map numbers zs)
+  written-of a b left right = rw (left, right) written-is
+
+-- a size in range
+pub size-fits : (n : ℕ) → n ≤ DIMENSION_MOST → list_all (λ size. leb size DIMENSION_MOST) (n ∷ []) ≡ true
+size-fits n most = let fits : leb n DIMENSION_MOST ≡ true = grind (arith, nat_tests, most) in rw fits refl
