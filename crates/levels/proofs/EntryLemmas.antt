@@ -34,7 +34,7 @@ pub length-entry_list : (arity : ℕ) (coords values : List ℕ) → length (ent
 length-entry_list arity coords [] = refl
 length-entry_list arity coords (v ∷ values) = ap suc (length-entry_list arity (drop arity coords) values)
 
-entry-at : (arity : ℕ) (coords values : List ℕ) (n : ℕ) (d : List ℕ × ℕ) → n < length values → get_or (entry_list arity coords values) n d ≡ (take arity (drop (n * arity) coords), get_or values n 0)
+pub entry-at : (arity : ℕ) (coords values : List ℕ) (n : ℕ) (d : List ℕ × ℕ) → n < length values → get_or (entry_list arity coords values) n d ≡ (take arity (drop (n * arity) coords), get_or values n 0)
 entry-at arity coords [] n d h = absurd (omega arith)
 entry-at arity coords (v ∷ values) zero d h =
     let z : 0 ≡ 0 * arity = grind arith in

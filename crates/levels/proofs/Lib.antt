@@ -1,4 +1,5 @@
 pub mod Ascending
+pub mod ConditionLemmas
 pub mod EntryLemmas
 pub mod FinalLemmas
 pub mod Growth

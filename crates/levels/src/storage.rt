@@ -1,9 +1,11 @@
 //! The storage of a tensor and its calls.
 
-ghost use Rattle.std.specs.Prelude.{◌≡◌, ℕ, ◌^◌, ◌<◌, ◌≤◌, length, Some, slice_get, slice_index, IfOk, OnOk, IsErrOf};
-ghost use Rattle.sam_model.specs.Tensors.{stored_as, stored_prefixes};
+ghost use Rattle.std.specs.Prelude.{◌≡◌, ℕ, ◌*◌, ◌^◌, ◌<◌, ◌≤◌, true, length, Some, slice_get, slice_index, IfOk, OnOk, IsErrOf};
+ghost use Rattle.std.specs.List.{list_all};
+ghost use Rattle.sam_model.specs.Accepted.{is_well_formed};
+ghost use Rattle.sam_model.specs.Lists.{within};
+ghost use Rattle.sam_model.specs.Tensors.{entry_list, stored_as, stored_prefixes};
 ghost use Rattle.sam_model.specs.Children.{ranked};
-ghost use Rattle.levels.specs.Matches.{IsStorable, Matches};
 ghost use Rattle.levels.specs.Reads.{children_at, fiber_at};
 
 use crate::build::{all_levels, values_at};
@@ -38,8 +40,10 @@ impl Storage {
     ///
     /// `TooManyPositions` comes exactly where for some length more than 2^24 prefixes are stored.
     pub fn build(alloc: Global, entries: &Entries, t: &Tensor) -> Result<Storage, BuildFault>
-        requires storable { IsStorable t.now }
-        requires matches { Matches t.now entries.now }
+        requires tensor { is_well_formed t.now ≡ true }
+        requires arity { entries.now.arity ≡ length t.now.dims }
+        requires whole { length entries.now.coords ≡ entries.now.arity * length entries.now.values }
+        requires in_range { list_all (λ entry. within t.now.dims entry.0) (entry_list entries.now.arity entries.now.coords entries.now.values) ≡ true }
         ensures stored { IfOk result (λ s. s ≡ ranked (stored_as t.now entries.now)) }
         ensures few { OnOk result ((k : ℕ) → k ≤ length t.now.order → length (stored_prefixes (stored_as t.now entries.now) k) ≤ 2 ^ 24) }
         ensures many { IsErrOf result BuildFault.TooManyPositions → (k : ℕ) × (k ≤ length t.now.order) × (2 ^ 24 < length (stored_prefixes (stored_as t.now entries.now) k)) }

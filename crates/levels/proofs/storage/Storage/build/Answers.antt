@@ -5,9 +5,19 @@ use Rattle.sam_model.specs.Tensors.{stored_as, stored_prefixes}
 use Rattle.levels.specs.declared.rows.Row.{Row}
 use Rattle.levels.specs.Placed.{InOrder}
 use Rattle.levels.specs.Rows.{entry_of, of_rows}
+use Rattle.levels.proofs.ConditionLemmas.{storable, matches}
 use Rattle.levels.proofs.Levels.{length-mapped}
 use Rattle.levels.proofs.FinalLemmas.{placed-length, made-prefixes, made-ranked}
 use Rattle.levels.proofs.storage.Storage.build.Goals as goal
+
+pub sorted_rows-requires : goal.sorted_rows-requires
+sorted_rows-requires c = record {
+  storable = storable c.args.t.now c.requires.tensor;
+  matches = matches c.args.t.now c.args.entries.now c.requires.arity c.requires.whole c.requires.in_range;
+}
+
+pub all_levels-requires-clause-storable : goal.all_levels-requires-clause-storable
+all_levels-requires-clause-storable c = storable c.args.t.now c.requires.tensor
 
 pub values_at-requires : goal.values_at-requires
 values_at-requires c = record {
