@@ -1,3 +1,8 @@
 pub mod Arrays
-pub mod Shown
+pub mod Each
+pub mod Matches
+pub mod Pairs
+pub mod Placed
 pub mod Reads
+pub mod Rows
+pub mod Shown

@@ -1,7 +1,14 @@
 //! A compressed level.
 
-ghost use Rattle.std.specs.Prelude.{◌≡◌, ℕ, ◌+◌, ◌<◌, ◌≤◌, [], length, Some, slice_get, slice_index, slice_index_or};
+ghost use Rattle.std.specs.Prelude.{◌≡◌, ℕ, ◌+◌, ◌^◌, ◌<◌, ◌≤◌, [], length, Some, slice_get, slice_index, slice_index_or, IfOk};
+ghost use mathlib.Core.List.{map};
+ghost use Rattle.sam_model.specs.Lists.{below};
 ghost use Rattle.levels.specs.Arrays.{fibers};
+ghost use Rattle.levels.specs.Each.{Each, Sorted};
+ghost use Rattle.levels.specs.Pairs.{NotAfter, before};
+
+use crate::pairs::Pair;
+use std::alloc::{AllocError, Global};
 
 /// The children of parent r have the coordinates from place `segments[r]` up to `segments[r + 1]`, and these places
 /// are their ranks.
@@ -36,4 +43,27 @@ impl Compressed {
         let place = u64::from(self.segments[r as usize]) + n;
         (u64::from(self.coordinates[place as usize]), place)
     }
+}
+
+/// For each parent, and once more at the end, how many pairs have a smaller parent.
+pub fn segments_of(alloc: Global, pairs: &[Pair], parents: u64) -> Result<Vec<u32>, AllocError>
+    requires few { length pairs.now ≤ 2 ^ 24 }
+    requires small { parents ≤ 2 ^ 24 }
+    requires inside { Each (λ x. x.0 < parents) pairs.now }
+    requires sorted { Sorted (λ x y. x.0 ≤ y.0) pairs.now }
+    ensures { IfOk result (λ segments. segments.items ≡ map (before pairs.now) (below (parents + 1))) }
+{
+    let mut segments = Vec::with_capacity(alloc, parents as usize + 1)?;
+    for (place, pair) in pairs.iter().enumerate() {
+        segments.resize(pair.0 as usize + 1, place as u32)?;
+    }
+    segments.resize(parents as usize + 1, pairs.len() as u32)?;
+    Ok(segments)
+}
+
+/// The coordinates of the pairs.
+pub fn coordinates_of(alloc: Global, pairs: &[Pair]) -> Result<Vec<u32>, AllocError>
+    ensures { IfOk result (λ coordinates. coordinates.items ≡ map (λ x. x.1) pairs.now) }
+{
+    pairs.iter().map(|pair| pair.1).collect(alloc)
 }

@@ -2,11 +2,17 @@
 //! array. Contracts see a storage by the ranks of its stored prefixes.
 #![tactic(auto)]
 
+mod build;
 mod compressed;
 mod dense;
 mod faults;
 mod level;
+mod pairs;
+mod positions;
+mod rows;
 mod storage;
+#[cfg(test)]
+mod tests;
 
 pub use faults::BuildFault;
 pub use storage::Storage;

@@ -1,9 +1,19 @@
 //! The storage of a tensor and its calls.
 
-ghost use Rattle.std.specs.Prelude.{◌≡◌, ◌<◌, length, Some, slice_get, slice_index};
+ghost use Rattle.std.specs.Prelude.{◌≡◌, ℕ, ◌*◌, ◌^◌, ◌<◌, ◌≤◌, true, length, Some, slice_get, slice_index, IfOk, OnOk, IsErrOf};
+ghost use Rattle.std.specs.List.{list_all};
+ghost use Rattle.sam_model.specs.Accepted.{is_well_formed};
+ghost use Rattle.sam_model.specs.Lists.{within};
+ghost use Rattle.sam_model.specs.Tensors.{entry_list, stored_as, stored_prefixes};
+ghost use Rattle.sam_model.specs.Children.{ranked};
 ghost use Rattle.levels.specs.Reads.{children_at, fiber_at};
 
+use crate::build::{all_levels, values_at};
+use crate::faults::BuildFault;
 use crate::level::Level;
+use crate::rows::sorted_rows;
+use sam_model::{Entries, Tensor};
+use std::alloc::Global;
 use std::marker::Model;
 
 /// A stored tensor. Its references are ranks: the rank of a stored prefix is the number of smaller stored prefixes of
@@ -26,6 +36,25 @@ impl Model for Storage {
 }
 
 impl Storage {
+    /// Stores a tensor. Values of repeated entries are summed modulo 2^64.
+    ///
+    /// `TooManyPositions` comes exactly where for some length more than 2^24 prefixes are stored.
+    pub fn build(alloc: Global, entries: &Entries, t: &Tensor) -> Result<Storage, BuildFault>
+        requires tensor { is_well_formed t.now ≡ true }
+        requires arity { entries.now.arity ≡ length t.now.dims }
+        requires whole { length entries.now.coords ≡ entries.now.arity * length entries.now.values }
+        requires in_range { list_all (λ entry. within t.now.dims entry.0) (entry_list entries.now.arity entries.now.coords entries.now.values) ≡ true }
+        ensures stored { IfOk result (λ s. s ≡ ranked (stored_as t.now entries.now)) }
+        ensures few { OnOk result ((k : ℕ) → k ≤ length t.now.order → length (stored_prefixes (stored_as t.now entries.now) k) ≤ 2 ^ 24) }
+        ensures many { IsErrOf result BuildFault.TooManyPositions → (k : ℕ) × (k ≤ length t.now.order) × (2 ^ 24 < length (stored_prefixes (stored_as t.now entries.now) k)) }
+    {
+        let sorted = sorted_rows(alloc, entries, t)?;
+        let rows = sorted.as_slice();
+        let (levels, at) = all_levels(alloc, rows, t)?;
+        let values = values_at(alloc, rows, &at)?;
+        Ok(Storage { levels, values })
+    }
+
     /// The number of stored prefixes of this length; 1 for length 0.
     pub fn count(&self, level: u8) -> u64
         requires { level < length self.now.counts }

@@ -1,0 +1,98 @@
+-- Rows in order, and lists with the same entries.
+use Rattle.std.proofs.Common.{◌≡◌, ℕ, zero, suc, ◌+◌, ◌%◌, ◌^◌, ◌<◌, ◌≤◌, Bool, true, false, cond, ◌&&◌, ◌||◌, List, [], ◌∷◌, length, take, get_or, eqb, ltb, refl, ap, sym, ◌∙◌, subst, arith, Ordering}
+use Rattle.std.specs.Ordering.{is_lt, nat_cmp, ordering_then}
+use Rattle.std.specs.Cmp.Lexicographic.{slice_cmp, lists_total}
+use Rattle.std.specs.Cmp.{nat_cmp_total}
+use Rattle.std.specs.List.{All, list_any, filter, sum_by}
+use Rattle.std.specs.List.Sorted.{IsPermutation, IsSortedByKey}
+use mathlib.Core.List.{map}
+use Rattle.std.proofs.lemmas.Bool.Decides.{nat_tests}
+use Rattle.std.proofs.lemmas.List.Sorted.{ranks_by, sorted_far, All-permutation, list_any-IsPermutation, sum_by-IsPermutation}
+use Rattle.std.proofs.lemmas.List.Recursion.{is_sum_by}
+use Rattle.sam_model.specs.Lists.{smaller, same_list, total, tuples}
+use Rattle.sam_model.specs.Tensors.{Stored, compressed_until, is_stored, value_at, stored_prefixes}
+use Rattle.sam_model.specs.Children.{ranked}
+use Rattle.levels.specs.declared.rows.Row.{Row}
+use Rattle.levels.specs.Each.{Each, Sorted}
+use Rattle.levels.specs.Rows.{entry_of}
+use Rattle.levels.proofs.Maps.{Each-map, Each-weaker}
+use Rattle.levels.proofs.Growth.{Each-get}
+use Rattle.levels.proofs.EntryLemmas.{Each-from-places}
+
+-- ---- the order of rows
+
+step : (x y : ℕ) (o : Ordering) → is_lt (ordering_then (nat_cmp x y) o) ≡ (ltb x y || (eqb x y && is_lt o))
+step x y o = by_case (ltb x y) (eqb x y) refl refl
+  where
+    apart : (x y : ℕ) → ltb x y ≡ true → eqb x y ≡ true → ⊥
+    apart x y e f = grind (arith, nat_tests)
+
+    by_case : (b c : Bool) → ltb x y ≡ b → eqb x y ≡ c → is_lt (ordering_then (cond b Rattle.std.specs.declared.cmp.Ordering.TheVariants.Less (cond c Rattle.std.specs.declared.cmp.Ordering.TheVariants.Equal Rattle.std.specs.declared.cmp.Ordering.TheVariants.Greater)) o) ≡ (b || (c && is_lt o))
+    by_case true c e f = refl
+    by_case false true e f = refl
+    by_case false false e f = refl
+
+pub cmp-smaller : (x y : List ℕ) → is_lt (slice_cmp nat_cmp x y) ≡ smaller x y
+cmp-smaller [] [] = refl
+cmp-smaller [] (y ∷ ys) = refl
+cmp-smaller (x ∷ xs) [] = refl
+cmp-smaller (x ∷ xs) (y ∷ ys) = step x y (slice_cmp nat_cmp xs ys) ∙ ap (λ b. ltb x y || (eqb x y && b)) (cmp-smaller xs ys)
+
+take-smaller : (n : ℕ) (x y : List ℕ) → smaller (take n x) (take n y) ≡ true → smaller x y ≡ true
+take-smaller zero x y h = cc
+take-smaller (suc n) [] [] h = cc
+take-smaller (suc n) [] (b ∷ y) h = refl
+take-smaller (suc n) (a ∷ x) [] h = cc
+take-smaller (suc n) (a ∷ x) (b ∷ y) h = heads a b (smaller (take n x) (take n y)) (smaller x y) h (take-smaller n x y)
+  where
+    heads : (a b : ℕ) (c d : Bool) → (ltb a b || (eqb a b && c)) ≡ true → (c ≡ true → d ≡ true) → (ltb a b || (eqb a b && d)) ≡ true
+    heads a b c d h f = grind (arith, nat_tests)
+
+not-smaller : (n : ℕ) (x y : List ℕ) → smaller x y ≡ false → smaller (take n x) (take n y) ≡ false
+not-smaller n x y h = by_case (smaller (take n x) (take n y)) refl
+  where
+    by_case : (b : Bool) → smaller (take n x) (take n y) ≡ b → smaller (take n x) (take n y) ≡ false
+    by_case false e = e
+    by_case true e = let t = take-smaller n x y e in cc
+
+Sorted-from-places : {A : Type 0} (R : A → A → Type 0) (d : A) (xs : List A) → ((i j : ℕ) → i < j → j < length xs → R (get_or xs i d) (get_or xs j d)) → Sorted R xs
+Sorted-from-places R d [] h = tt
+Sorted-from-places R d (x ∷ xs) h =
+    (Each-from-places (R x) d xs (λ n l. h 0 (suc n) (omega arith) (omega arith)), Sorted-from-places R d xs (λ i j l m. h (suc i) (suc j) (omega arith) (omega arith)))
+
+Sorted-map : {A B : Type 0} (R : A → A → Type 0) (S : B → B → Type 0) (f : A → B) → ((x y : A) → R x y → S (f x) (f y)) → (xs : List A) → Sorted R xs → Sorted S (map f xs)
+Sorted-map R S f e [] h = tt
+Sorted-map R S f e (x ∷ xs) h = (Each-map (S (f x)) f xs (Each-weaker (R x) (λ y. S (f x) (f y)) (λ y r. e x y r) xs h.0), Sorted-map R S f e xs h.1)
+
+pub sorted-entries : (n : ℕ) (rows : List Row) → IsSortedByKey (λ (row : Row). row.coordinates) (slice_cmp nat_cmp) rows → Sorted (λ x y. smaller y.0 x.0 ≡ false) (map (entry_of n) rows)
+sorted-entries n rows up =
+    Sorted-map (λ (x y : Row). is_lt (slice_cmp nat_cmp y.coordinates x.coordinates) ≡ false) (λ x y. smaller y.0 x.0 ≡ false) (entry_of n)
+    (λ x y h. not-smaller n y.coordinates x.coordinates (sym (cmp-smaller y.coordinates x.coordinates) ∙ h)) rows
+    (Sorted-from-places (λ (x y : Row). is_lt (slice_cmp nat_cmp y.coordinates x.coordinates) ≡ false) record { coordinates = []; value = 0 } rows
+    (λ i j l m. sorted_far (λ (x y : Row). is_lt (slice_cmp nat_cmp x.coordinates y.coordinates)) (ranks_by (lists_total nat_cmp_total) (λ (row : Row). row.coordinates)) rows up i j record { coordinates = []; value = 0 } (omega arith) m))
+
+-- ---- the same entries in another order
+
+pub Each-permutation : {A : Type 0} (Q : A → Type 0) (d : A) (xs ys : List A) → IsPermutation xs ys → Each Q xs → Each Q ys
+Each-permutation Q d xs ys same h = Each-from-places Q d ys (λ n l. All-permutation Q xs ys same (λ k e l. Each-get Q xs k e l h) n d l)
+
+module _ (a : Stored) (entries : List (List ℕ × ℕ)) (same : IsPermutation a.entries entries) where
+  abbrev pub moved : Stored
+  moved = record { formats = a.formats; sizes = a.sizes; entries = entries }
+
+  pub stored-same : (p : List ℕ) → is_stored a p ≡ is_stored moved p
+  stored-same p =
+      ap (λ b. eqb (compressed_until (length p) a.formats) 0 || b)
+      (list_any-IsPermutation (λ entry. same_list (take (compressed_until (length p) a.formats) entry.0) (take (compressed_until (length p) a.formats) p)) a.entries entries same)
+
+  total-same : (f : List ℕ × ℕ → ℕ) → total f a.entries ≡ total f entries
+  total-same f =
+      is_sum_by (total f) f refl (λ _ _. refl) a.entries
+      ∙ sym (sum_by-IsPermutation f a.entries entries same)
+      ∙ sym (is_sum_by (total f) f refl (λ _ _. refl) entries)
+
+  pub value-same : (c : List ℕ) → value_at a c ≡ value_at moved c
+  value-same c = ap (λ n. n % 2 ^ 64) (total-same (λ entry. cond (same_list entry.0 c) entry.1 0))
+
+  pub prefixes-same : (k : ℕ) → stored_prefixes a k ≡ stored_prefixes moved k
+  prefixes-same k = Rattle.levels.proofs.Maps.filter-ext (is_stored a) (is_stored moved) stored-same (tuples (take k a.sizes))
