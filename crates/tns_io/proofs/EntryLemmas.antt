@@ -80,11 +80,12 @@ grow : (sizes cs vs ds ws : List ℕ) (n : ℕ) (more : List Line) (file : File)
 grow sizes cs vs ds ws n more file (Err kind) h fits same e = cc
 grow sizes cs vs ds ws n more file (Ok entry) h fits same e =
     let many : length entry.0 ≡ length sizes = fits entry refl in
+    let total : length (cs ++ entry.0) ≡ length sizes * length (vs ++ entry.1 ∷ []) = simp length-append (grind (arith, h, many)) in
     let both : (cs ++ entry.0, vs ++ entry.1 ∷ []) ≡ (ds, ws) = cc in
     let first : cs ++ entry.0 ≡ ds = ap (λ (q : List ℕ × List ℕ). q.0) both in
     let second : vs ++ entry.1 ∷ [] ≡ ws = ap (λ (q : List ℕ × List ℕ). q.1) both in
     rw (← first, ← second) (record {
-      whole = simp length-append (grind (arith, h, many));
+      whole = total;
       same = rw (entry_list-push (length sizes) cs vs entry.0 entry.1 h many, length-append vs (entry.1 ∷ []), add-one)
           (after-push (entry_list (length sizes) cs vs) entry n (entries_of sizes (suc (length vs)) more) ∙ same);
     })

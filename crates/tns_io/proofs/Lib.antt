@@ -5,4 +5,6 @@ pub mod PathLemmas
 pub mod WalkLemmas
 pub mod LineLemmas
 pub mod ListingLemmas
+mod Rising
 mod Worked
+mod WorkedResults

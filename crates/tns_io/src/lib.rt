@@ -6,6 +6,8 @@ mod faults;
 mod fields;
 mod paths;
 mod results;
+#[cfg(test)]
+mod tests;
 mod values;
 
 pub use entries::read_tns;
