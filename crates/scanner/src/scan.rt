@@ -10,7 +10,8 @@ ghost use Rattle.block_core.proofs.Unique.{same_wish};
 ghost use Rattle.levels.specs.Reads.{children_at};
 ghost use Rattle.scanner.specs.ScanSteps.{scan_steps, scan_wants, scan_took, scan_put, number_at, child_from, called_for, is_scanned, is_within};
 
-use crate::state::{Output, ScanState};
+use crate::state::Output::{self, Coordinates, References};
+use crate::state::ScanState;
 use block_core::{BlockStep, Wish};
 use levels::Storage;
 use std::alloc::AllocError;
@@ -52,8 +53,8 @@ impl<'a> Scanner<'a> {
     {
         let (coordinate, reference) = self.storage.child(self.level, r, n);
         match output {
-            Output::Coordinates => coordinate,
-            Output::References => reference,
+            Coordinates => coordinate,
+            References => reference,
         }
     }
 
@@ -64,7 +65,7 @@ impl<'a> Scanner<'a> {
         ensures { result ≡ child_from (children_at self.now.storage.now self.now.level) r 0 }
     {
         if self.storage.fiber_len(self.level, r) > 0 {
-            ScanState::Child(Output::Coordinates, r, 0)
+            ScanState::Child(Coordinates, r, 0)
         } else {
             ScanState::Wanting(true)
         }
@@ -78,7 +79,7 @@ impl<'a> Scanner<'a> {
         ensures { result ≡ child_from (children_at self.now.storage.now self.now.level) r (n + 1) }
     {
         if self.storage.fiber_len(self.level, r) - n > 1 {
-            ScanState::Child(Output::Coordinates, r, n + 1)
+            ScanState::Child(Coordinates, r, n + 1)
         } else {
             ScanState::Wanting(true)
         }
@@ -93,8 +94,8 @@ impl<'a> Scanner<'a> {
         match t {
             Token::Item(r) => self.first_child(r),
             Token::Empty => ScanState::Wanting(true),
-            Token::Stop(n) => ScanState::Closing(Output::Coordinates, Token::Stop(n + 1)),
-            Token::Done => ScanState::Closing(Output::Coordinates, Token::Done),
+            Token::Stop(n) => ScanState::Closing(Coordinates, Token::Stop(n + 1)),
+            Token::Done => ScanState::Closing(Coordinates, Token::Done),
         }
     }
 
@@ -105,10 +106,10 @@ impl<'a> Scanner<'a> {
         match self.state {
             ScanState::Wanting(_) => Wish::Take(0),
             ScanState::Parting(output, _) => Wish::Put(output.port(), Token::Stop(0)),
-            ScanState::Child(output, r, n) => Wish::Put(
-                output.port(),
-                Token::Item(self.number(output, r, n)),
-            ),
+            ScanState::Child(output, r, n) => {
+                let number = self.number(output, r, n);
+                Wish::Put(output.port(), Token::Item(number))
+            }
             ScanState::Closing(output, t) => Wish::Put(output.port(), t),
             ScanState::Ended => Wish::Finished,
         }
@@ -119,15 +120,13 @@ impl<'a> Scanner<'a> {
         requires { IsTrue (is_scanned (children_at self.now.storage.now self.now.level) t) }
         ensures { result ≡ scan_took (children_at self.now.storage.now self.now.level) self.now.state t }
     {
-        match self.state {
-            ScanState::Wanting(more) => match t {
-                Token::Item(_) | Token::Empty | Token::Done if more => ScanState::Parting(
-                    Output::Coordinates,
-                    t,
-                ),
-                _ => self.called_for(t),
-            },
-            other => other,
+        let ScanState::Wanting(more) = self.state else {
+            return self.state;
+        };
+        match t {
+            Token::Stop(_) => self.called_for(t),
+            _ if more => ScanState::Parting(Coordinates, t),
+            _ => self.called_for(t),
         }
     }
 
@@ -136,17 +135,13 @@ impl<'a> Scanner<'a> {
         ensures { result ≡ scan_put (children_at self.now.storage.now self.now.level) self.now.state }
     {
         match self.state {
-            ScanState::Parting(Output::Coordinates, t) => ScanState::Parting(Output::References, t),
-            ScanState::Parting(Output::References, t) => self.called_for(t),
-            ScanState::Child(Output::Coordinates, r, n) => ScanState::Child(
-                Output::References,
-                r,
-                n,
-            ),
-            ScanState::Child(Output::References, r, n) => self.child_after(r, n),
-            ScanState::Closing(Output::Coordinates, t) => ScanState::Closing(Output::References, t),
-            ScanState::Closing(Output::References, Token::Done) => ScanState::Ended,
-            ScanState::Closing(Output::References, _) => ScanState::Wanting(false),
+            ScanState::Parting(Coordinates, t) => ScanState::Parting(References, t),
+            ScanState::Parting(References, t) => self.called_for(t),
+            ScanState::Child(Coordinates, r, n) => ScanState::Child(References, r, n),
+            ScanState::Child(References, r, n) => self.child_after(r, n),
+            ScanState::Closing(Coordinates, t) => ScanState::Closing(References, t),
+            ScanState::Closing(References, Token::Done) => ScanState::Ended,
+            ScanState::Closing(References, _) => ScanState::Wanting(false),
             other => other,
         }
     }
