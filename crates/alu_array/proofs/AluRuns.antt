@@ -1,5 +1,5 @@
 -- A new arithmetic unit makes the moves of its kind.
-use Rattle.std.proofs.Common.{◌≡◌, ℕ, zero, suc, List, [], ◌∷◌, Some, None, refl, sym, subst}
+use Rattle.std.proofs.Common.{◌≡◌, zero, suc, List, [], ◌∷◌, Some, None, refl, sym, subst}
 use Rattle.stream_tokens.specs.Nest.{Leaf, leaf, Fiber}
 use Rattle.block_core.specs.Move.{Move}
 use Rattle.block_core.specs.Arithmetic.{Operation, combine}

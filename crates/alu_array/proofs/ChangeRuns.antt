@@ -1,5 +1,5 @@
 -- A new block that puts each token changed makes the moves of its kind.
-use Rattle.std.proofs.Common.{◌≡◌, ℕ, List, [], ◌∷◌, length, refl, sym, subst}
+use Rattle.std.proofs.Common.{ℕ, List, [], ◌∷◌, refl, sym, subst}
 use Rattle.stream_tokens.specs.declared.Token.{Token}
 use Rattle.stream_tokens.specs.declared.Token.TheVariants.{Item, Empty, Stop, Done}
 use Rattle.stream_tokens.proofs.Ending.{EndsWithin, IsStream-ends}

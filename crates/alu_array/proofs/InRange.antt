@@ -1,13 +1,13 @@
 -- Each reference that an array takes is one of its tensor's.
-use Rattle.std.proofs.Common.{◌≡◌, ◌<◌, ℕ, zero, suc, List, [], ◌∷◌, length, slice_get, Some, sym, subst}
+use Rattle.std.proofs.Common.{◌≡◌, ℕ, zero, suc, List, [], ◌∷◌, length, slice_get, Some, subst}
 use Rattle.std.proofs.Math.Logic.{∥∥₁_elim}
 use denote.Struct.Props.{props}
 use Rattle.stream_tokens.specs.declared.Token.{Token}
 use Rattle.stream_tokens.specs.declared.Token.TheVariants.{Item, Empty, Stop, Done}
-use Rattle.block_core.specs.Move.{Move, Taking, Putting}
+use Rattle.block_core.specs.Move.{Taking}
 use Rattle.block_core.specs.Change.{ItemsBelow, value_at, change_moves}
-use Rattle.block_core.specs.Ports.{Streams, port}
-use Rattle.block_core.specs.Kind.{ArrayKind, moves}
+use Rattle.block_core.specs.Ports.{port}
+use Rattle.block_core.specs.Kind.{ArrayKind}
 use Rattle.block_core.specs.Stands.{Stands}
 use Rattle.block_core.specs.Runs.{Runs}
 use Rattle.block_core.specs.Steps.{MayTake}
@@ -26,7 +26,6 @@ below_rest n Empty s h = h
 below_rest n (Stop k) s h = h
 below_rest n Done s h = h
 
-
 taken_below : (n : ℕ) (f : ℕ → ℕ) (s : List Token) (k p : ℕ) (t : Token)
     → ItemsBelow n s → slice_get (change_moves f s) k ≡ Some (Taking p t) → ItemsBelow n (t ∷ [])
 taken_below n f [] k p t h at = absurd (cc)
@@ -42,11 +41,10 @@ below_prop n Empty = hlevel
 below_prop n (Stop k) = hlevel
 below_prop n Done = hlevel
 
-
 -- where an array may take a token, a reference is in range
 pub may_take_below : (values : List ℕ) (state : ChangeState) (p : ℕ) (t : Token)
     → MayTake (Stands (Runs (change_steps (value_at values)) state) (ArrayKind values)) (ArrayKind values) p t
     → ItemsBelow (length values) (t ∷ [])
 may_take_below values state p t may =
     ∥∥₁_elim may (below_prop (length values) t)
-      (λ at. taken_below (length values) (value_at values) (port 0 at.0) at.1 p t at.2.fits.well at.3)
+    (λ at. taken_below (length values) (value_at values) (port 0 at.0) at.1 p t at.2.fits.well at.3)

@@ -103,17 +103,48 @@ fn blocks_run(rt: HostRuntime) -> Result<(), Fail> {
     let left = [Item(5), Empty, Item(5), Empty, Stop(0), Done];
     let right = [Item(2), Item(2), Empty, Empty, Stop(0), Done];
     let rows = [
-        (Op::Sub, [Item(3), Item(18446744073709551614), Item(5), Empty, Stop(0), Done]),
+        (
+            Op::Sub,
+            [
+                Item(3),
+                Item(18446744073709551614),
+                Item(5),
+                Empty,
+                Stop(0),
+                Done,
+            ],
+        ),
         (Op::Add, [Item(7), Item(2), Item(5), Empty, Stop(0), Done]),
         (Op::Mul, [Item(10), Empty, Empty, Empty, Stop(0), Done]),
     ];
     for (op, want) in rows {
         assert!(rt; combines(op, [&left, &right], &want, rt.alloc())?, "{op:?}");
     }
-    assert!(rt; combines(Op::Add, [&[Item(4), Done], &[Item(9), Done]], &[Item(13), Done], rt.alloc())?);
-    assert!(rt; combines(Op::Mul, [&[Stop(1), Done], &[Stop(1), Done]], &[Stop(1), Done], rt.alloc())?);
+    assert!(rt;
+        combines(
+            Op::Add,
+            [&[Item(4), Done], &[Item(9), Done]],
+            &[Item(13), Done],
+            rt.alloc()
+        )?
+    );
+    assert!(rt;
+        combines(
+            Op::Mul,
+            [&[Stop(1), Done], &[Stop(1), Done]],
+            &[Stop(1), Done],
+            rt.alloc()
+        )?
+    );
     let given = [Item(0), Empty, Stop(0), Stop(0), Item(3), Stop(1), Done];
-    assert!(rt; replaces(7, &given, &[Item(7), Empty, Stop(0), Stop(0), Item(7), Stop(1), Done], rt.alloc())?);
+    assert!(rt;
+        replaces(
+            7,
+            &given,
+            &[Item(7), Empty, Stop(0), Stop(0), Item(7), Stop(1), Done],
+            rt.alloc()
+        )?
+    );
     assert!(rt; begins(&[Item(0), Done], rt.alloc())?);
     Ok(())
 }

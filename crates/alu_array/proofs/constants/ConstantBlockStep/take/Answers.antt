@@ -7,4 +7,4 @@ use Rattle.alu_array.proofs.constants.ConstantBlockStep.take.Goals as goal
 pub returns-clause-moved : goal.returns-clause-moved
 returns-clause-moved c = λ s n h at.
     stands_take (change_steps (λ _. c.args.self.now.value)) _ _ _ s n _ _
-      (c.gives-self.ensures ∙ ap (λ (u : Token). change_gives c.args.self.now.state u) c.changed.ensures) at h
+    (c.gives-self.ensures ∙ ap (λ (u : Token). change_gives c.args.self.now.state u) c.changed.ensures) at h

@@ -8,4 +8,4 @@ use Rattle.alu_array.proofs.lookup.ArrayBlockStep.take.Goals as goal
 pub returns-clause-moved : goal.returns-clause-moved
 returns-clause-moved c = λ s n h at.
     stands_take (change_steps (value_at c.args.self.now.storage.now.values)) _ _ _ s n _ _
-      (c.gives-self.ensures ∙ ap (λ (u : Token). change_gives c.args.self.now.state u) c.changed.ensures) at h
+    (c.gives-self.ensures ∙ ap (λ (u : Token). change_gives c.args.self.now.state u) c.changed.ensures) at h

@@ -1,0 +1,7 @@
+//! The block that reads a level of a stored tensor: beneath each reference it puts the children there.
+#![tactic(auto)]
+
+mod scan;
+mod state;
+
+pub use scan::Scanner;

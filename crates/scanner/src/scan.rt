@@ -1,0 +1,198 @@
+//! The level scanner.
+
+ghost use Rattle.std.specs.Prelude.{◌≡◌, ◌<◌, ◌≤◌, ℕ, ◌+◌, List, [], length, get_or, false, slice_get, Some, IsOk, IfOk, IfErr, IsTrue};
+ghost use Rattle.block_core.specs.Move.{Taking, Putting};
+ghost use Rattle.block_core.specs.Ports.{Streams};
+ghost use Rattle.block_core.specs.Kind.{ScanKind, Fits, moves};
+ghost use Rattle.block_core.specs.Stands.{Stands};
+ghost use Rattle.block_core.specs.Runs.{Runs};
+ghost use Rattle.block_core.proofs.Unique.{same_wish};
+ghost use Rattle.levels.specs.Reads.{children_at};
+ghost use Rattle.scanner.specs.ScanSteps.{scan_steps, scan_wants, scan_took, scan_put, number_at, child_from, called_for, is_scanned, is_within};
+
+use crate::state::Output::{self, Coordinates, References};
+use crate::state::ScanState;
+use block_core::{BlockStep, Wish};
+use levels::Storage;
+use std::alloc::AllocError;
+use stream_tokens::Token;
+
+/// The level scanner of the Sparse Abstract Machine: beneath each reference of its input, of a stored prefix, lie the
+/// coordinates of the prefix's children, ascending, on one output and their references on the other. The outputs are
+/// one deeper than the input, so each stop is raised by one.
+#[derive(Clone, Copy)]
+pub struct Scanner<'a> {
+    storage: &'a Storage,
+    level: u8,
+    state: ScanState,
+    ghost counted: { 0 < level },
+    ghost within: { IsTrue (is_within (children_at storage.now level) state) },
+}
+
+impl<'a> Scanner<'a> {
+    /// The scanner of a level of a stored tensor; levels count from 1.
+    pub fn new(storage: &'a Storage, level: u8) -> Scanner<'a>
+        requires { (0 < level) × (level ≤ length storage.now.children) }
+        ensures same_kind { ⟦<Scanner<'a> as BlockStep>⟧.kind result ≡ ScanKind (children_at storage.now level) }
+        ensures sure { ⟦<Scanner<'a> as BlockStep>⟧.may_refuse result ≡ false }
+        ensures starts { (s : Streams) → Fits (ScanKind (children_at storage.now level)) s → ⟦<Scanner<'a> as BlockStep>⟧.stands result s 0 }
+    {
+        Scanner {
+            storage,
+            level,
+            state: ScanState::Wanting(false),
+        }
+    }
+
+    /// What is put of a child on an output.
+    #[inline]
+    fn number(&self, output: Output, r: u64, n: u64) -> u64
+        requires parent { r < length (children_at self.now.storage.now self.now.level) }
+        requires child { n < length (get_or (children_at self.now.storage.now self.now.level) r []) }
+        ensures { result ≡ number_at (children_at self.now.storage.now self.now.level) output r n }
+    {
+        let (coordinate, reference) = self.storage.child(self.level, r, n);
+        match output {
+            Coordinates => coordinate,
+            References => reference,
+        }
+    }
+
+    /// The first child of a parent, if there is one.
+    #[inline]
+    fn first_child(&self, r: u64) -> ScanState
+        requires { r < length (children_at self.now.storage.now self.now.level) }
+        ensures { result ≡ child_from (children_at self.now.storage.now self.now.level) r 0 }
+    {
+        if self.storage.fiber_len(self.level, r) > 0 {
+            ScanState::Child(Coordinates, r, 0)
+        } else {
+            ScanState::Wanting(true)
+        }
+    }
+
+    /// The child after this one, if there is one.
+    #[inline]
+    fn child_after(&self, r: u64, n: u64) -> ScanState
+        requires parent { r < length (children_at self.now.storage.now self.now.level) }
+        requires child { n < length (get_or (children_at self.now.storage.now self.now.level) r []) }
+        ensures { result ≡ child_from (children_at self.now.storage.now self.now.level) r (n + 1) }
+    {
+        if self.storage.fiber_len(self.level, r) - n > 1 {
+            ScanState::Child(Coordinates, r, n + 1)
+        } else {
+            ScanState::Wanting(true)
+        }
+    }
+
+    /// What a token calls for, once no fiber before it is left to be ended.
+    #[inline]
+    fn called_for(&self, t: Token) -> ScanState
+        requires { IsTrue (is_scanned (children_at self.now.storage.now self.now.level) t) }
+        ensures { result ≡ called_for (children_at self.now.storage.now self.now.level) t }
+    {
+        match t {
+            Token::Item(r) => self.first_child(r),
+            Token::Empty => ScanState::Wanting(true),
+            Token::Stop(n) => ScanState::Closing(Coordinates, Token::Stop(n + 1)),
+            Token::Done => ScanState::Closing(Coordinates, Token::Done),
+        }
+    }
+
+    #[inline]
+    fn wants(&self) -> Wish
+        ensures { result ≡ scan_wants (children_at self.now.storage.now self.now.level) self.now.state }
+    {
+        match self.state {
+            ScanState::Wanting(_) => Wish::Take(0),
+            ScanState::Parting(output, _) => Wish::Put(output.port(), Token::Stop(0)),
+            ScanState::Child(output, r, n) => {
+                let number = self.number(output, r, n);
+                Wish::Put(output.port(), Token::Item(number))
+            }
+            ScanState::Closing(output, t) => Wish::Put(output.port(), t),
+            ScanState::Ended => Wish::Finished,
+        }
+    }
+
+    #[inline]
+    fn took(&self, t: Token) -> ScanState
+        requires { IsTrue (is_scanned (children_at self.now.storage.now self.now.level) t) }
+        ensures { result ≡ scan_took (children_at self.now.storage.now self.now.level) self.now.state t }
+    {
+        let ScanState::Wanting(more) = self.state else {
+            return self.state;
+        };
+        match t {
+            Token::Stop(_) => self.called_for(t),
+            _ if more => ScanState::Parting(Coordinates, t),
+            _ => self.called_for(t),
+        }
+    }
+
+    #[inline]
+    fn put(&self) -> ScanState
+        ensures { result ≡ scan_put (children_at self.now.storage.now self.now.level) self.now.state }
+    {
+        match self.state {
+            ScanState::Parting(Coordinates, t) => ScanState::Parting(References, t),
+            ScanState::Parting(References, t) => self.called_for(t),
+            ScanState::Child(Coordinates, r, n) => ScanState::Child(References, r, n),
+            ScanState::Child(References, r, n) => self.child_after(r, n),
+            ScanState::Closing(Coordinates, t) => ScanState::Closing(References, t),
+            ScanState::Closing(References, Token::Done) => ScanState::Ended,
+            ScanState::Closing(References, _) => ScanState::Wanting(false),
+            other => other,
+        }
+    }
+}
+
+impl<'a> BlockStep for Scanner<'a> {
+    ghost kind = { λ b. ScanKind (children_at b.storage.now b.level) };
+
+    ghost may_refuse = { λ _. false };
+
+    ghost stands = { λ b. Stands (Runs (scan_steps (children_at b.storage.now b.level)) b.state) (ScanKind (children_at b.storage.now b.level)) };
+
+    fn ins(&self) -> u32 {
+        1
+    }
+
+    fn outs(&self) -> u32 {
+        2
+    }
+
+    #[inline]
+    fn wish(&self) -> Wish {
+        self.wants()
+    }
+
+    // It is enough that a reference is one of the level's parents, and that a stop can be raised.
+    #[inline]
+    fn take(&mut self, port: u32, t: Token) -> Result<(), AllocError>
+        requires { IsTrue (is_scanned (children_at self.old.storage.now self.old.level) t) }
+        ensures same_kind { ⟦<Scanner<'a> as BlockStep>⟧.kind self.new ≡ ⟦<Scanner<'a> as BlockStep>⟧.kind self.old }
+        ensures same_refusal { ⟦<Scanner<'a> as BlockStep>⟧.may_refuse self.new ≡ ⟦<Scanner<'a> as BlockStep>⟧.may_refuse self.old }
+        ensures moved { IfOk result (λ _. (s : Streams) (n : ℕ) → ⟦<Scanner<'a> as BlockStep>⟧.stands self.old s n → slice_get (moves (ScanKind (children_at self.old.storage.now self.old.level)) s) n ≡ Some (Taking port t) → ⟦<Scanner<'a> as BlockStep>⟧.stands self.new s (n + 1)) }
+        ensures refused { IfErr result (λ _. self.new ≡ self.old) }
+        ensures sure { IsOk result }
+    {
+        self.state = self.took(t);
+        Ok(())
+    }
+
+    #[inline]
+    fn did_put(&mut self)
+        ensures same_kind { ⟦<Scanner<'a> as BlockStep>⟧.kind self.new ≡ ⟦<Scanner<'a> as BlockStep>⟧.kind self.old }
+        ensures same_refusal { ⟦<Scanner<'a> as BlockStep>⟧.may_refuse self.new ≡ ⟦<Scanner<'a> as BlockStep>⟧.may_refuse self.old }
+        ensures moved { (s : Streams) (n : ℕ) (port : ℕ) (t : Token) → ⟦<Scanner<'a> as BlockStep>⟧.stands self.old s n → slice_get (moves (ScanKind (children_at self.old.storage.now self.old.level)) s) n ≡ Some (Putting port t) → ⟦<Scanner<'a> as BlockStep>⟧.stands self.new s (n + 1) }
+    {
+        self.state = self.put();
+    }
+
+    ghost stands_fits = { λ b s n h. h.fits };
+
+    ghost stands_within = { λ b s n h. h.within };
+
+    ghost agrees = { λ b s r n h k a. same_wish _ _ n (moves (ScanKind (children_at b.storage.now b.level)) s) (moves (ScanKind (children_at b.storage.now b.level)) r) h.rest k.rest a };
+}
