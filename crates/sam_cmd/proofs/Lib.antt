@@ -1,5 +1,6 @@
 pub mod Denoted
 pub mod OneFiber
 pub mod Reading
+pub mod ReportLemmas
 pub mod SharedFacts
 pub mod VectorStored

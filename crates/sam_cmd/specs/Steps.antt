@@ -44,15 +44,6 @@ abbrev pub ProgramFault : FilesSpan → List ℕ → Fault → Type 0
 ProgramFault files name NotBuilt = IsNoForm files.told name
 ProgramFault files name fault = FileFault files name fault
 
--- a compressed vector of a size in range
-pub record IsCompressedVector (t : TensorType) : Type 0 where
-  pub name : List ℕ
-  pub size : ℕ
-  pub file : List ℕ
-  pub is_vector : t ≡ vector_named name size file
-  pub least : 1 ≤ size
-  pub most : size ≤ DIMENSION_MOST
-
 -- the entries of a tensor's file, each inside the tensor
 pub record GivesEntries (told : Option Told) (t : TensorType) (e : Entries) : Type 0 where
   pub bytes : List ℕ

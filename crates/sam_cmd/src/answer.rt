@@ -1,11 +1,14 @@
 //! What a command answers: its text, or why there is none.
 
-ghost use Rattle.std.specs.Prelude.{◌≡◌, ◌≤◌, ◌⊎◌, ℕ, length, map, string_bytes, Some, None, IfOk, IfErr, IfNone, IfSome};
-ghost use Rattle.sam_cmd.specs.Answers.{program_named as named};
-ghost use Rattle.sam_cmd.specs.Steps.{GivesText, FileFault, GivesProgram, ProgramFault, IsCompressedVector, GivesEntries, TensorFault};
+ghost use Rattle.std.specs.Prelude.{◌≡◌, ◌≤◌, ◌⊎◌, ℕ, length, map, string_bytes, true, Some, None, IfOk, IfErr, IfNone, IfSome};
+ghost use Rattle.sam_model.specs.Accepted.{is_well_formed};
+ghost use Rattle.sam_cmd.specs.Answers.{program_named as named, Comes};
+ghost use Rattle.sam_cmd.specs.Steps.{GivesText, FileFault, GivesProgram, ProgramFault, GivesEntries, GivesStorage, TensorFault};
 
 use crate::form::read_form;
-use sam_base::{Fault, Name, TnsKind};
+use crate::product::product_text;
+use levels::{BuildFault, Storage};
+use sam_base::{Fault, Name, TnsKind, VARIABLES_MOST};
 use sam_io::{Files, ReadEnd, read_whole};
 use sam_model::{Entries, Program, Tensor};
 use std::alloc::Global;
@@ -109,7 +112,7 @@ fn program<F: Files>(alloc: Global, files: &mut F, name: &Name) -> Result<Progra
 
 /// Reads the entries of a tensor's file.
 fn entries<F: Files>(alloc: Global, files: &mut F, t: &Tensor) -> Result<Entries, Fault>
-    requires { IsCompressedVector t.now }
+    requires { length t.now.dims ≤ VARIABLES_MOST }
     ensures same { F.told files.new ≡ F.told files.old }
     ensures faults { F.faults files.old ≤ F.faults files.new }
     ensures misses { F.misses files.old ≤ F.misses files.new }
@@ -134,5 +137,64 @@ fn entries<F: Files>(alloc: Global, files: &mut F, t: &Tensor) -> Result<Entries
         Ok(entries) => Ok(entries),
         Err(TnsFault::Refused { kind, line }) => Err(refused(alloc, &t.file, kind, line)),
         Err(TnsFault::OutOfMemory) => Err(Fault::OutOfMemory),
+    }
+}
+
+/// Reads a tensor's file, and stores the tensor.
+fn storage<F: Files>(alloc: Global, files: &mut F, t: &Tensor) -> Result<Storage, Fault>
+    requires tensor { is_well_formed t.now ≡ true }
+    requires few { length t.now.dims ≤ VARIABLES_MOST }
+    requires levels { length t.now.order ≡ length t.now.dims }
+    ensures same { F.told files.new ≡ F.told files.old }
+    ensures faults { F.faults files.old ≤ F.faults files.new }
+    ensures misses { F.misses files.old ≤ F.misses files.new }
+    ensures ok { IfOk result (GivesStorage (F.told files.old) t.now) }
+    ensures err {
+        IfErr result
+            (TensorFault
+                (record {
+                    told = F.told files.old;
+                    faults_before = F.faults files.old;
+                    faults_now = F.faults files.new;
+                    misses_before = F.misses files.old;
+                    misses_now = F.misses files.new
+                })
+                t.now)
+    }
+{
+    let entries = entries(alloc, files, t)?;
+    match Storage::build(alloc, &entries, t) {
+        Ok(storage) => Ok(storage),
+        Err(BuildFault::TooManyPositions) => Err(refused(alloc, &t.file, TnsKind::TooManyPositions, 0)),
+        Err(BuildFault::OutOfMemory) => Err(Fault::OutOfMemory),
+    }
+}
+
+/// What a command answers: the text that it writes, or why there is none.
+pub fn answer<F: Files>(alloc: Global, words: &[String], files: &mut F) -> Result<Name, Fault>
+    ensures {
+        Comes (map string_bytes words.now)
+            (record {
+                told = F.told files.old;
+                faults_before = F.faults files.old;
+                faults_now = F.faults files.new;
+                misses_before = F.misses files.old;
+                misses_now = F.misses files.new
+            })
+            result
+    }
+{
+    let Some(word) = program_named(words) else {
+        return Err(Fault::NotBuilt);
+    };
+    let Ok(name) = Name::from_slice(alloc, word.as_bytes()) else {
+        return Err(Fault::OutOfMemory);
+    };
+    let program = program(alloc, files, &name)?;
+    let left = storage(alloc, files, program.tensors.get(0))?;
+    let right = storage(alloc, files, program.tensors.get(1))?;
+    match product_text(alloc, &program, &left, &right) {
+        Ok(text) => Ok(text),
+        Err(_) => Err(Fault::OutOfMemory),
     }
 }

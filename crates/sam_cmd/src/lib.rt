@@ -1,8 +1,87 @@
 //! The commands: their words, their answers and what they write.
+//!
+//! One call does all that the program does. Its contract says which answer it gives and why, and what it leaves on the
+//! two sinks.
 #![tactic(auto)]
+
+ghost use Rattle.std.specs.Prelude.{◌≡◌, ◌≢◌, map, string_bytes};
+ghost use Rattle.sam_cmd.specs.Answers.{Answered, Complete};
 
 mod answer;
 mod form;
 mod lists;
 mod product;
 mod report;
+
+use answer::answer;
+use report::{report, say};
+use sam_io::{Files, Sink, write_whole};
+use std::alloc::Global;
+
+/// Runs a command, and answers its exit status.
+///
+/// `step FILE` reads a program file and the files of its tensors, and writes the tensor that the statement denotes: the
+/// sum of products over all index tuples, modulo 2^64, at the coordinates of its pattern. Today it serves the product of
+/// two compressed vectors; the contract says which other answers there are and when each comes.
+pub fn sam_serial<F: Files, O: Sink, E: Sink>(
+    alloc: Global,
+    words: &[String],
+    files: &mut F,
+    out: &mut O,
+    err: &mut E,
+) -> u8
+    ensures answered {
+        Answered (map string_bytes words.now)
+            (record {
+                told = F.told files.old;
+                faults_before = F.faults files.old;
+                faults_now = F.faults files.new;
+                misses_before = F.misses files.old;
+                misses_now = F.misses files.new
+            })
+            (record {
+                before = O.written out.old;
+                now = O.written out.new;
+                faults_before = O.faults out.old;
+                faults_now = O.faults out.new
+            })
+            (record {
+                before = E.written err.old;
+                now = E.written err.new;
+                faults_before = E.faults err.old;
+                faults_now = E.faults err.new
+            })
+            result
+    }
+    ensures complete {
+        Complete (map string_bytes words.now)
+            (record {
+                told = F.told files.old;
+                faults_before = F.faults files.old;
+                faults_now = F.faults files.new;
+                misses_before = F.misses files.old;
+                misses_now = F.misses files.new
+            })
+            (record {
+                before = O.written out.old;
+                now = O.written out.new;
+                faults_before = O.faults out.old;
+                faults_now = O.faults out.new
+            })
+            result
+    }
+    // no call at all was made on them, and not only nothing written
+    ensures quiet { result ≡ 0 → err.new ≡ err.old }
+    ensures untouched { result ≢ 0 → result ≢ 7 → out.new ≡ out.old }
+{
+    match answer(alloc, words, files) {
+        Ok(text) => match write_whole(out, text.as_bytes()) {
+            Ok(()) => 0,
+            Err(_) => {
+                say(err, b"sam: write fault\n");
+                7
+            }
+        },
+        Err(fault) => report(alloc, &fault, err),
+    }
+}

@@ -1,0 +1,16 @@
+-- A fault that was reported is an answer.
+use Rattle.std.proofs.Common.{◌≡◌, ℕ, inl, inr, List, sym, subst}
+use Rattle.std.specs.Prelude.{Err}
+use Rattle.sam_base.specs.declared.faults.Fault.{Fault}
+use Rattle.sam_base.specs.declared.faults.Fault.TheVariants.{OutOfMemory}
+use Rattle.sam_cmd.specs.Answers.{FilesSpan, SinkSpan, Comes, Refused, Answered, ReportsFault}
+
+-- a fault that came and was reported is an answer
+pub reported :
+    (words : List (List ℕ)) (files : FilesSpan) (out err : SinkSpan) (status : ℕ) (fault : Fault) →
+    Comes words files (Err fault) → out.now ≡ out.before → ReportsFault fault err status → Answered words files out err status
+reported words files out err status fault comes nothing report =
+    let left : Refused report.told_fault out err status = record { is_status = report.is_status; nothing = nothing; said = report.said } in
+    elim report.which
+      [ inl same ↦ record { answer = Err report.told_fault; comes = subst (λ f. Comes words files (Err f)) (sym same) comes; leaves = left }
+      | inr memory ↦ record { answer = Err report.told_fault; comes = subst (λ f. Comes words files (Err f)) (sym memory) tt; leaves = left } ]
