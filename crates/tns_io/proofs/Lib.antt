@@ -2,6 +2,7 @@ pub mod ValueLemmas
 pub mod FieldLemmas
 pub mod EntryLemmas
 pub mod PathLemmas
+pub mod PlaceLemmas
 pub mod WalkLemmas
 pub mod LineLemmas
 pub mod ListingLemmas

@@ -66,7 +66,7 @@ prefix-below (x ∷ ends) zero q h = rw (lt-leb x q h) (omega arith)
 prefix-below (x ∷ ends) (suc a) q h = below-step (nat_le x q) _ a (prefix-below ends a q h)
 
 -- in a level in range
-ends-behind : (ends : List ℕ) (above q size : ℕ) → length ends ≡ suc above → get_or ends 0 0 ≡ 0 → get_or ends above 0 ≡ size → q < size → place_above ends q < above
+pub ends-behind : (ends : List ℕ) (above q size : ℕ) → length ends ≡ suc above → get_or ends 0 0 ≡ 0 → get_or ends above 0 ≡ size → q < size → place_above ends q < above
 ends-behind [] above q size h f l k = absurd (omega (arith, h))
 ends-behind (e ∷ ends) zero q size h f l k = absurd (omega (arith, f, l))
 ends-behind (e ∷ ends) (suc above) q size h f l k =
