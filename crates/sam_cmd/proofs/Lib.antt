@@ -1,3 +1,4 @@
+pub mod AnswerLemmas
 pub mod Denoted
 pub mod OneFiber
 pub mod Reading

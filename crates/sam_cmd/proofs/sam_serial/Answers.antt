@@ -4,3 +4,6 @@ use Rattle.sam_cmd.proofs.sam_serial.Goals as goal
 
 pub returns-clause-answered : goal.returns-clause-answered
 returns-clause-answered g c = reported _ _ _ _ _ _ c.in-Err.ensures refl c.report.ensures
+
+pub returns-clause-complete : goal.returns-clause-complete
+returns-clause-complete g c = ?
