@@ -1,6 +1,7 @@
 -- A fault that was reported is an answer.
-use Rattle.std.proofs.Common.{◌≡◌, ℕ, inl, inr, List, sym, subst}
-use Rattle.std.specs.Prelude.{Err}
+use Rattle.std.proofs.Common.{◌≡◌, ℕ, inl, inr, List, sym, ap, ◌∙◌, subst}
+use Rattle.std.specs.Prelude.{◌⊎◌, Err}
+use Rattle.sam_base.specs.Texts.{status_of}
 use Rattle.sam_base.specs.declared.faults.Fault.{Fault}
 use Rattle.sam_base.specs.declared.faults.Fault.TheVariants.{OutOfMemory}
 use Rattle.sam_cmd.specs.Answers.{FilesSpan, SinkSpan, Comes, Refused, Answered, ReportsFault}
@@ -14,3 +15,11 @@ reported words files out err status fault comes nothing report =
     elim report.which
       [ inl same ↦ record { answer = Err report.told_fault; comes = subst (λ f. Comes words files (Err f)) (sym same) comes; leaves = left }
       | inr memory ↦ record { answer = Err report.told_fault; comes = subst (λ f. Comes words files (Err f)) (sym memory) tt; leaves = left } ]
+
+-- want of memory has its status, however it is told
+pub memory-status :
+    (fault : Fault) (err : SinkSpan) (status : ℕ) → fault ≡ OutOfMemory → ReportsFault fault err status → (status ≡ 0) ⊎ (status ≡ 9)
+memory-status fault err status memory report =
+    elim report.which
+      [ inl same ↦ inr (report.is_status ∙ ap status_of (same ∙ memory))
+      | inr told ↦ inr (report.is_status ∙ ap status_of told) ]

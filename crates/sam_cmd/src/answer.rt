@@ -191,8 +191,14 @@ pub fn answer<F: Files>(alloc: Global, words: &[String], files: &mut F) -> Resul
         return Err(Fault::OutOfMemory);
     };
     let program = program(alloc, files, &name)?;
-    let left = storage(alloc, files, program.tensors.get(0))?;
-    let right = storage(alloc, files, program.tensors.get(1))?;
+    let left = match storage(alloc, files, program.tensors.get(0)) {
+        Ok(left) => left,
+        Err(fault) => return Err(fault),
+    };
+    let right = match storage(alloc, files, program.tensors.get(1)) {
+        Ok(right) => right,
+        Err(fault) => return Err(fault),
+    };
     match product_text(alloc, &program, &left, &right) {
         Ok(text) => Ok(text),
         Err(_) => Err(Fault::OutOfMemory),
