@@ -62,7 +62,7 @@ fn ascending_from(last: u64, vars: &[u64], order: &[u64]) -> bool
 }
 
 /// Whether the variables stand in loop order when they are listed in storage order.
-fn ascending(vars: &[u64], order: &[u64]) -> bool
+pub fn ascending(vars: &[u64], order: &[u64]) -> bool
     ensures { result ≡ ascends (items_at vars.now order.now) }
 {
     match order {
@@ -71,7 +71,7 @@ fn ascending(vars: &[u64], order: &[u64]) -> bool
     }
 }
 
-fn is_dimension(d: u64) -> bool
+pub fn is_dimension(d: u64) -> bool
     ensures { result ≡ in_range d }
 {
     1 <= d && d <= DIMENSION_MOST
@@ -84,13 +84,13 @@ fn are_below(numbers: &[u64], count: u64) -> bool
 }
 
 /// Whether these are the modes below a count, each once.
-fn is_order(count: usize, order: &[u64]) -> bool
+pub fn is_order(count: usize, order: &[u64]) -> bool
     ensures { result ≡ orders count order.now }
 {
     order.len() == count && are_below(order, count as u64) && distinct(order)
 }
 
-fn is_compressed(format: &Format) -> bool
+pub fn is_compressed(format: &Format) -> bool
     ensures { result ≡ compressed format.now }
 {
     match format {
@@ -99,13 +99,13 @@ fn is_compressed(format: &Format) -> bool
     }
 }
 
-fn are_compressed(formats: &[Format]) -> bool
+pub fn are_compressed(formats: &[Format]) -> bool
     ensures { result ≡ list_all compressed formats.now }
 {
     formats.iter().all(|format| is_compressed(format))
 }
 
-fn are_dimensions(dims: &[u64]) -> bool
+pub fn are_dimensions(dims: &[u64]) -> bool
     ensures { result ≡ list_all in_range dims.now }
 {
     dims.iter().all(|d| is_dimension(*d))
@@ -304,7 +304,7 @@ fn all_stand(left: &[u64], terms: &[Term], count: usize) -> bool
     true
 }
 
-fn is_taken(name: &[u8], tensors: &[Tensor]) -> bool
+pub fn is_taken(name: &[u8], tensors: &[Tensor]) -> bool
     ensures { result ≡ taken name.now tensors.now }
 {
     tensors.iter().any(|tensor| name == tensor.name.as_bytes())

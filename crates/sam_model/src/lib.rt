@@ -5,6 +5,9 @@ mod acceptance;
 mod program;
 mod tensors;
 
-pub use acceptance::{accepted, distinct_names, is_named, statement_fits};
+pub use acceptance::{
+    accepted, are_compressed, are_dimensions, ascending, distinct_names, is_named, is_order,
+    is_taken, statement_fits,
+};
 pub use program::{Factor, Program, Term};
 pub use tensors::{Entries, Format, Tensor, Written};

@@ -1,0 +1,84 @@
+-- The program of a file, and the first fault of a text.
+use Rattle.std.specs.Prelude.{ℕ, ◌-◌, ◌^◌, min, Bool, true, false, not, nat_lt, List, [], ◌∷◌, length, if◌then◌else◌, Option, Some, None, Result, Ok, Err}
+use Rattle.std.specs.List.{position_or_len}
+use Rattle.std.specs.Str.{bytes_eq}
+use mathlib.Core.List.{map}
+use Rattle.sam_base.specs.declared.faults.ProgramKind.{ProgramKind}
+use Rattle.sam_base.specs.declared.faults.ProgramKind.TheVariants.{TooManyVariables, LoopsMismatch, BadLine}
+use Rattle.sam_model.specs.declared.tensors.Tensor.{Tensor}
+use Rattle.sam_model.specs.declared.program.Factor.{Factor}
+use Rattle.sam_model.specs.declared.program.Factor.TheVariants as model
+use Rattle.sam_model.specs.declared.program.Term.{Term}
+use Rattle.sam_model.specs.declared.program.Program.{Program}
+use Rattle.sam_model.specs.Accepted.{accepted}
+use Rattle.notation.specs.declared.statement.FactorText.{FactorText}
+use Rattle.notation.specs.declared.statement.FactorText.TheVariants.{Access, Literal}
+use Rattle.notation.specs.declared.statement.TermText.{TermText}
+use Rattle.program_file.specs.declared.accesses.Variable.{Variable}
+use Rattle.program_file.specs.declared.files.File.{File}
+use Rattle.program_file.specs.Refusals.{Refusal, refuse, after}
+use Rattle.program_file.specs.Accesses.{is_variable, bind_left, bind_terms, unless}
+use Rattle.program_file.specs.Checks.{first_of, terms_fault, are_loops, places, access_discordant, terms_discordant, terms_deep}
+use Rattle.program_file.specs.Files.{file_of}
+
+abbrev pub tensor_place : List Tensor → List ℕ → ℕ
+tensor_place tensors name = position_or_len (λ t. bytes_eq name t.name) tensors
+
+-- the number of a tensor, by its name; a text has fewer tensors than there are numbers
+abbrev pub number_of : List Tensor → List ℕ → ℕ
+number_of tensors name = min (tensor_place tensors name) (2 ^ 32 - 1)
+
+abbrev pub factor_of : List Tensor → List (List ℕ) → FactorText → Factor
+factor_of tensors loops (Access a) = model.Access (number_of tensors a.name) (places loops a.vars)
+factor_of tensors loops (Literal n) = model.Literal n
+
+abbrev pub term_of : List Tensor → List (List ℕ) → TermText → Term
+term_of tensors loops t = record { minus = t.minus; factors = map (factor_of tensors loops) t.factors }
+
+-- the dimension at the first place of a variable
+abbrev pub size_of : List Variable → List ℕ → ℕ
+size_of [] name = 0
+size_of (v ∷ vars) name = if is_variable name v then v.size else size_of vars name
+
+-- the program that a file writes: tensors and variables by their numbers, variables in loop order
+abbrev pub program_of : File → List Variable → Program
+program_of f vars = record {
+  tensors = f.tensors;
+  result = f.result;
+  left = places f.loops f.statement.left.vars;
+  terms = map (term_of f.tensors f.loops) f.statement.terms;
+  var_names = f.loops;
+  var_sizes = map (size_of vars) f.loops;
+}
+
+-- the first fault of the loops' order: the accesses, left first, then the sums
+abbrev pub order_fault : File → Option ProgramKind
+order_fault f =
+    first_of (access_discordant f.loops f.statement.left f.result)
+    (first_of (terms_discordant f.tensors f.loops f.statement.terms) (terms_deep f.loops f.statement.left.vars f.statement.terms))
+
+-- the checks of the line with the loops, in their order
+abbrev pub loops_checked : File → List Variable → Result Program Refusal
+loops_checked f vars =
+    if not (are_loops vars f.loops) then refuse LoopsMismatch f.loops_line
+    else unless f.loops_line (order_fault f) (program_of f vars)
+
+-- the checks of the statement's line behind those of its accesses
+abbrev pub statement_checked : File → List Variable → Result Program Refusal
+statement_checked f vars =
+    after (unless f.statement_line (terms_fault f.statement.left.vars f.statement.terms) vars) (λ bound.
+    if nat_lt 8 (length bound) then refuse TooManyVariables f.statement_line else loops_checked f bound)
+
+abbrev pub bound_of : File → Result (List Variable) Refusal
+bound_of f = after (bind_left f.statement_line f.result f.statement.left) (λ vars. bind_terms f.statement_line f.tensors f.result vars f.statement.terms)
+
+abbrev pub checked : File → Result Program Refusal
+checked f = after (bound_of f) (statement_checked f)
+
+-- a last look at the whole program
+abbrev pub accepted_only : Program → Result Program Refusal
+accepted_only p = if accepted p then Ok p else refuse BadLine 0
+
+-- the program that a text writes, or its first fault: the lines first, then the checks
+abbrev pub reading : List ℕ → Result Program Refusal
+reading text = after (after (file_of text) checked) accepted_only
