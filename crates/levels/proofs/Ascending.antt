@@ -1,18 +1,18 @@
 -- The stored prefixes of a length ascend, and their ranks are their places.
 use Rattle.std.proofs.Common.{◌≡◌, ℕ, zero, suc, ◌+◌, ◌<◌, ◌≤◌, Bool, true, false, cond, ◌&&◌, ◌||◌, List, [], ◌∷◌, ◌++◌, length, take, eqb, ltb, refl, ap, sym, ◌∙◌, subst, arith, append_assoc, length-append, inl, inr, ◌⊎◌}
-use Rattle.std.specs.Prelude.{slice_get, slice_index, Some, Option}
-use Rattle.std.specs.List.{flat_map, filter, list_any, range_with_len}
+use Rattle.std.specs.Prelude.{slice_get, Some}
+use Rattle.std.specs.List.{flat_map, filter, range_with_len}
 use mathlib.Core.List.{map}
 use Rattle.std.proofs.lemmas.Bool.Decides.{nat_tests}
-use Rattle.std.proofs.lemmas.List.{append-nil, length_push}
+use Rattle.std.proofs.lemmas.List.{length_push}
 use Rattle.sam_model.specs.declared.tensors.Format.{Format}
-use Rattle.sam_model.specs.Lists.{below, tuples, same_list, smaller}
+use Rattle.sam_model.specs.Lists.{tuples, same_list, smaller}
 use Rattle.sam_model.specs.Tensors.{Stored, is_stored, stored_prefixes, rank_of, list_at}
 use Rattle.sam_model.specs.Children.{next_coordinates, children_under, children_of}
 use Rattle.levels.specs.Each.{Each}
-use Rattle.levels.proofs.Orders.{eqb-same, ltb-irrefl, same_list-self, same_list-true, smaller-irrefl, smaller-trans, smaller-asym}
-use Rattle.levels.proofs.Maps.{map-map, map-ext, Each-append, Each-left, Each-right, Each-map, Each-always, Each-flat_map, Each-weaker, Each-filter, filter-none-each}
-use Rattle.levels.proofs.Prefixes.{longer, longer-length, next_prefixes, prefixes-more, tuples-front-long}
+use Rattle.levels.proofs.Orders.{eqb-same, ltb-irrefl, same_list-self, same_list-true, smaller-irrefl, smaller-asym}
+use Rattle.levels.proofs.Maps.{map-ext, Each-append, Each-right, Each-map, Each-always, Each-weaker, Each-filter, filter-none-each}
+use Rattle.levels.proofs.Prefixes.{longer, longer-length, prefixes-more, tuples-front-long}
 
 -- each list comes before those after it
 abbrev pub Ascending : List (List ℕ) → Type 0

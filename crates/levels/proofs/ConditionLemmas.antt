@@ -1,9 +1,9 @@
 -- What a well formed tensor and entries in range give, place by place.
-use Rattle.std.proofs.Common.{◌≡◌, ℕ, zero, suc, ◌+◌, ◌*◌, ◌^◌, ◌<◌, ◌≤◌, Bool, true, false, ◌&&◌, List, [], ◌∷◌, length, take, drop, get_or, eqb, ltb, leb, refl, ap, sym, ◌∙◌, subst, arith}
+use Rattle.std.proofs.Common.{◌≡◌, ℕ, zero, suc, ◌+◌, ◌*◌, ◌^◌, ◌<◌, ◌≤◌, Bool, true, ◌&&◌, List, [], ◌∷◌, length, take, drop, get_or, eqb, ltb, leb, ap, sym, ◌∙◌, subst, arith}
 use Rattle.std.specs.Prelude.{slice_index}
 use Rattle.std.specs.List.{list_all}
 use Rattle.std.proofs.lemmas.Bool.Decides.{nat_tests}
-use Rattle.std.proofs.lemmas.List.{get_or-drop, get_or-take, length-take-le, length-drop}
+use Rattle.std.proofs.lemmas.List.{get_or-drop, get_or-take, length-drop}
 use Rattle.std.proofs.Math.Nat.{mul_comm}
 use Rattle.sam_model.specs.declared.tensors.Tensor.{Tensor}
 use Rattle.sam_model.specs.declared.tensors.Entries.{Entries}
@@ -56,21 +56,22 @@ matches t e arity whole inside =
       within = λ n m h l. at n m h l turned;
     }
   where
-  long : (n : ℕ) → n < length e.values → length e.coords ≡ length e.values * e.arity → (m : ℕ) → m < e.arity → m < length (take e.arity (drop (n * e.arity) e.coords))
-  long n h turned m l =
-      let last = row-place n m e.arity (length e.values) (length e.coords) h l turned in
-      let d = length-drop (n * e.arity) e.coords in
-      front (drop (n * e.arity) e.coords) e.arity m l (omega arith)
-    where
-    front : (xs : List ℕ) (k m : ℕ) → m < k → m < length xs → m < length (take k xs)
-    front xs zero m l h = absurd (omega arith)
-    front [] (suc k) m l h = absurd (omega arith)
-    front (x ∷ xs) (suc k) zero l h = omega arith
-    front (x ∷ xs) (suc k) (suc m) l h = let r = front xs k m (omega arith) (omega arith) in omega arith
-  at : (n m : ℕ) → n < length e.values → m < e.arity → length e.coords ≡ length e.values * e.arity → slice_index e.coords (n * e.arity + m) < slice_index t.dims m
-  at n m h l turned =
-      let there : n < length (entry_list e.arity e.coords e.values) = rw (length-entry_list e.arity e.coords e.values) h in
-      let test = all-at (λ (entry : List ℕ × ℕ). within t.dims entry.0) (entry_list e.arity e.coords e.values) n ([], 0) inside there in
-      let test' : within t.dims (take e.arity (drop (n * e.arity) e.coords)) ≡ true = ap (λ (entry : List ℕ × ℕ). within t.dims entry.0) (sym (entry-at e.arity e.coords e.values n ([], 0) h)) ∙ test in
-      let small = within-at t.dims (take e.arity (drop (n * e.arity) e.coords)) m test' (long n h turned m l) in
-      subst (λ (x : ℕ). x < slice_index t.dims m) (get_or-take e.arity (drop (n * e.arity) e.coords) m 0 l ∙ get_or-drop (n * e.arity) e.coords m 0) small
+    long : (n : ℕ) → n < length e.values → length e.coords ≡ length e.values * e.arity → (m : ℕ) → m < e.arity → m < length (take e.arity (drop (n * e.arity) e.coords))
+    long n h turned m l =
+        let last = row-place n m e.arity (length e.values) (length e.coords) h l turned in
+        let d = length-drop (n * e.arity) e.coords in
+        front (drop (n * e.arity) e.coords) e.arity m l (omega arith)
+      where
+        front : (xs : List ℕ) (k m : ℕ) → m < k → m < length xs → m < length (take k xs)
+        front xs zero m l h = absurd (omega arith)
+        front [] (suc k) m l h = absurd (omega arith)
+        front (x ∷ xs) (suc k) zero l h = omega arith
+        front (x ∷ xs) (suc k) (suc m) l h = let r = front xs k m (omega arith) (omega arith) in omega arith
+
+    at : (n m : ℕ) → n < length e.values → m < e.arity → length e.coords ≡ length e.values * e.arity → slice_index e.coords (n * e.arity + m) < slice_index t.dims m
+    at n m h l turned =
+        let there : n < length (entry_list e.arity e.coords e.values) = rw (length-entry_list e.arity e.coords e.values) h in
+        let test = all-at (λ (entry : List ℕ × ℕ). within t.dims entry.0) (entry_list e.arity e.coords e.values) n ([], 0) inside there in
+        let test' : within t.dims (take e.arity (drop (n * e.arity) e.coords)) ≡ true = ap (λ (entry : List ℕ × ℕ). within t.dims entry.0) (sym (entry-at e.arity e.coords e.values n ([], 0) h)) ∙ test in
+        let small = within-at t.dims (take e.arity (drop (n * e.arity) e.coords)) m test' (long n h turned m l) in
+        subst (λ (x : ℕ). x < slice_index t.dims m) (get_or-take e.arity (drop (n * e.arity) e.coords) m 0 l ∙ get_or-drop (n * e.arity) e.coords m 0) small

@@ -1,20 +1,18 @@
 -- The entries of a tensor in storage order.
-use Rattle.std.proofs.Common.{◌≡◌, ℕ, zero, suc, ◌+◌, ◌*◌, ◌^◌, ◌<◌, ◌≤◌, Bool, true, false, ◌&&◌, List, [], ◌∷◌, length, take, drop, get_or, eqb, ltb, refl, ap, sym, ◌∙◌, subst, arith, add-zero, zero-add}
+use Rattle.std.proofs.Common.{◌≡◌, ℕ, zero, suc, ◌+◌, ◌*◌, ◌<◌, ◌≤◌, Bool, true, ◌&&◌, List, [], ◌∷◌, length, take, drop, get_or, ltb, refl, ap, sym, ◌∙◌, subst, arith}
 use Rattle.std.specs.Prelude.{slice_index, slice_index_or}
 use mathlib.Core.List.{map}
 use Rattle.std.proofs.lemmas.Bool.Decides.{nat_tests}
-use Rattle.std.proofs.lemmas.List.{get_or-drop, get_or-take, get_or-map, same_lists, length-take, drop-drop}
+use Rattle.std.proofs.lemmas.List.{get_or-drop, get_or-take, get_or-map, drop-drop}
 use Rattle.std.proofs.lemmas.Nat.{mul-add-lt}
-use Rattle.std.proofs.Math.Nat.{mul_comm, mul-le-mul_left, mul-le-mul_right}
+use Rattle.std.proofs.Math.Nat.{mul_comm, mul-le-mul_right}
 use Rattle.sam_model.specs.declared.tensors.Tensor.{Tensor}
 use Rattle.sam_model.specs.declared.tensors.Entries.{Entries}
 use Rattle.sam_model.specs.Lists.{items_at, within}
-use Rattle.sam_model.specs.Tensors.{Stored, entry_list, stored_as}
-use Rattle.levels.specs.declared.rows.Row.{Row}
+use Rattle.sam_model.specs.Tensors.{entry_list, stored_as}
 use Rattle.levels.specs.Each.{Each}
 use Rattle.levels.specs.Matches.{IsStorable, Matches}
-use Rattle.levels.specs.Rows.{entry_of, of_rows}
-use Rattle.levels.proofs.Maps.{Each-map, Each-weaker, Each-both}
+use Rattle.levels.proofs.Maps.{Each-map}
 use Rattle.levels.proofs.Levels.{length-mapped}
 
 -- ---- places in the file's list

@@ -1,17 +1,16 @@
 -- What a pass over the rows has made so far.
-use Rattle.std.proofs.Common.{◌≡◌, ℕ, zero, suc, ◌+◌, ◌-◌, ◌*◌, ◌%◌, ◌^◌, ◌<◌, ◌≤◌, Bool, true, false, cond, ◌&&◌, List, [], ◌∷◌, ◌++◌, Option, Some, None, length, take, drop, get_or, replicate, eqb, ltb, refl, ap, sym, ◌∙◌, subst, arith, append_assoc, length-append, zero-add}
-use Rattle.std.specs.Prelude.{slice_get, slice_index, slice_index_or}
-use Rattle.std.specs.List.{filter, range_with_len, zip}
+use Rattle.std.proofs.Common.{◌≡◌, ℕ, zero, suc, ◌+◌, ◌-◌, ◌*◌, ◌<◌, ◌≤◌, Bool, true, false, cond, List, [], ◌∷◌, ◌++◌, Some, None, length, take, drop, get_or, replicate, refl, ap, sym, ◌∙◌, subst, arith}
+use Rattle.std.specs.Prelude.{slice_get}
+use Rattle.std.specs.List.{range_with_len}
 use mathlib.Core.List.{map}
-use Rattle.std.proofs.lemmas.Bool.Decides.{nat_tests}
-use Rattle.std.proofs.lemmas.List.{append-nil, length_push, map-append, take_all, take_more, take-append-drop, take-append-le, get_or_append_left, get_or_push, drop_more, drop_all, map_more}
+use Rattle.std.proofs.lemmas.List.{length_push, map-append, take_all, take_more, take-append-drop, get_or_append_left, drop_more, drop_all, map_more}
 use Rattle.std.proofs.lemmas.List.FromFn.{length-map-range_with_len}
 use Rattle.std.proofs.lemmas.Nat.{mul-add-lt}
 use Rattle.std.proofs.Math.Nat.{mul_comm}
 use Rattle.sam_model.specs.Lists.{below}
 use Rattle.levels.specs.Each.{Each, Sorted}
 use Rattle.levels.specs.Pairs.{same_pair, ends_with, with_pair, with_pairs, before}
-use Rattle.levels.proofs.Maps.{Each-append, Each-left, Each-right, Each-weaker, map-ext}
+use Rattle.levels.proofs.Maps.{Each-append, Each-weaker, map-ext}
 use Rattle.levels.proofs.PairLemmas.{range-inside}
 use Rattle.levels.proofs.Views.{before-split}
 

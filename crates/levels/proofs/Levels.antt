@@ -1,25 +1,24 @@
 -- What a dense and a compressed level hold, and where the entries stand after it.
-use Rattle.std.proofs.Common.{◌≡◌, ℕ, zero, suc, ◌+◌, ◌-◌, ◌*◌, ◌<◌, ◌≤◌, Bool, true, false, cond, ◌&&◌, ◌||◌, List, [], ◌∷◌, ◌++◌, Option, Some, None, length, take, get_or, eqb, ltb, refl, ap, sym, ◌∙◌, subst, arith, append_assoc, length-append, zero-add}
+use Rattle.std.proofs.Common.{◌≡◌, ℕ, zero, suc, ◌+◌, ◌*◌, ◌<◌, true, List, [], ◌∷◌, Some, length, take, refl, ap, sym, ◌∙◌, arith, length-append, zero-add}
 use Rattle.std.specs.Prelude.{slice_get, slice_index, slice_index_or}
-use Rattle.std.specs.List.{flat_map, filter, list_any, range_with_len, zip}
+use Rattle.std.specs.List.{filter}
 use mathlib.Core.List.{map}
-use Rattle.std.proofs.lemmas.List.{append-nil, get_or_append_left, get_or-append-add}
-use Rattle.std.proofs.lemmas.List.FromFn.{length-range_with_len, length-map-range_with_len, get_or-map-range_with_len}
+use Rattle.std.proofs.lemmas.List.{get_or_append_left, get_or-append-add}
+use Rattle.std.proofs.lemmas.List.FromFn.{length-map-range_with_len, get_or-map-range_with_len}
 use Rattle.std.proofs.lemmas.Nat.{mul-add-lt}
 use Rattle.std.proofs.Math.Nat.{mul_comm}
-use Rattle.sam_model.specs.declared.tensors.Format.{Format}
 use Rattle.sam_model.specs.declared.tensors.Format.TheVariants.{Dense, Compressed}
-use Rattle.sam_model.specs.Lists.{below, same_list, smaller, within}
+use Rattle.sam_model.specs.Lists.{below, within}
 use Rattle.sam_model.specs.Tensors.{Stored, is_stored, stored_prefixes, list_at}
-use Rattle.sam_model.specs.Children.{next_coordinates, children_of}
+use Rattle.sam_model.specs.Children.{children_of}
 use Rattle.levels.specs.Arrays.{dense_children, fibers}
 use Rattle.levels.specs.Each.{Each, Sorted}
-use Rattle.levels.specs.Pairs.{same_pair, pair_below, NotAfter, with_pairs, before}
-use Rattle.levels.specs.Placed.{InOrder, Placed, column, pairs_at}
-use Rattle.levels.proofs.Maps.{map-map, map-ext, flat_map-ext, filter-ext, Each-map, Each-always, Each-weaker, Each-both}
+use Rattle.levels.specs.Pairs.{NotAfter, with_pairs, before}
+use Rattle.levels.specs.Placed.{InOrder, Placed, pairs_at}
+use Rattle.levels.proofs.Maps.{map-map, map-ext, flat_map-ext, filter-ext, Each-map, Each-weaker, Each-both}
 use Rattle.levels.proofs.Prefixes.{longer, stored-compressed}
 use Rattle.levels.proofs.Ascending.{prefixes-ascend, prefixes-long, number_all}
-use Rattle.levels.proofs.PairLemmas.{has, pairs_by, range-inside, below-inside, pairs-by-parents}
+use Rattle.levels.proofs.PairLemmas.{has, pairs_by, below-inside, pairs-by-parents}
 use Rattle.levels.proofs.Views.{dense-numbered, compressed-numbered}
 use Rattle.levels.proofs.Steps.{joined, coordinates_under, all_pairs, children-by-places, prefixes-by-places, under-long, dense-under, joined-pairs, has-pair, pairs-sorted, pairs-inside, within-at}
 

@@ -10,6 +10,7 @@ pub mod NextLemmas
 pub mod Orders
 pub mod PairLemmas
 pub mod Prefixes
+pub mod RankedLemmas
 pub mod ReadLemmas
 pub mod RowLemmas
 pub mod SegmentLemmas
@@ -17,3 +18,4 @@ pub mod SortLemmas
 pub mod Steps
 pub mod ValueLemmas
 pub mod Views
+mod Worked

@@ -1,13 +1,12 @@
 -- The step from the stored prefixes of a length to the next ones, by rows.
-use Rattle.std.proofs.Common.{◌≡◌, ℕ, zero, suc, ◌+◌, ◌*◌, ◌^◌, ◌<◌, ◌≤◌, List, [], ◌∷◌, Option, Some, Result, Ok, Err, length, refl, ap, sym, ◌∙◌, subst, arith}
+use Rattle.std.proofs.Common.{◌≡◌, ℕ, suc, ◌+◌, ◌*◌, ◌<◌, List, [], Some, Result, Ok, Err, length, ap, sym, ◌∙◌, subst, arith}
 use Rattle.std.specs.Prelude.{slice_get, slice_index, slice_index_or}
-use Rattle.std.specs.Result.{IfOk, IsErrOf}
+use Rattle.std.specs.Result.{IfOk}
 use mathlib.Core.List.{map}
 use Rattle.std.proofs.lemmas.List.{get_or-map}
 use Rattle.sam_model.specs.declared.tensors.Tensor.{Tensor}
 use Rattle.sam_model.specs.declared.tensors.Format.{Format}
 use Rattle.sam_model.specs.declared.tensors.Format.TheVariants.{Dense, Compressed}
-use Rattle.sam_model.specs.Lists.{items_at}
 use Rattle.sam_model.specs.Tensors.{stored_prefixes}
 use Rattle.sam_model.specs.Children.{children_of}
 use Rattle.levels.specs.declared.rows.Row.{Row}

@@ -1,13 +1,13 @@
 -- Ascending pairs of a parent and a coordinate.
-use Rattle.std.proofs.Common.{◌≡◌, ℕ, zero, suc, ◌+◌, ◌-◌, ◌*◌, ◌<◌, ◌≤◌, Bool, true, false, cond, ◌&&◌, ◌||◌, List, [], ◌∷◌, ◌++◌, length, take, eqb, ltb, refl, ap, sym, ◌∙◌, subst, arith, append_assoc, length-append}
+use Rattle.std.proofs.Common.{◌≡◌, ℕ, zero, suc, ◌+◌, ◌<◌, ◌≤◌, Bool, true, false, cond, ◌&&◌, ◌||◌, List, [], ◌∷◌, ◌++◌, eqb, ltb, refl, ap, sym, ◌∙◌, subst, arith}
 use Rattle.std.specs.List.{flat_map, filter, list_any, range_with_len}
 use mathlib.Core.List.{map}
 use Rattle.std.proofs.lemmas.Bool.Decides.{nat_tests}
 use Rattle.sam_model.specs.Lists.{below}
 use Rattle.levels.specs.Each.{Each, Sorted}
-use Rattle.levels.specs.Pairs.{same_pair, pair_below, NotAfter, with_pair, with_pairs, before}
-use Rattle.levels.proofs.Orders.{eqb-same, eqb-true, ltb-irrefl, and-left, and-right}
-use Rattle.levels.proofs.Maps.{map-map, map-ext, Each-append, Each-left, Each-right, Each-map, Each-always, Each-flat_map, Each-weaker, Each-filter, Each-passed, Each-both, filter-flat_map, filter-map, flat_map-ext}
+use Rattle.levels.specs.Pairs.{same_pair, pair_below, NotAfter, with_pair, with_pairs}
+use Rattle.levels.proofs.Orders.{eqb-same, eqb-true, and-left, and-right}
+use Rattle.levels.proofs.Maps.{Each-append, Each-map, Each-always, Each-flat_map, Each-weaker, Each-filter, filter-flat_map, filter-map, flat_map-ext}
 
 abbrev pub Before : ℕ × ℕ → ℕ × ℕ → Type 0
 Before x y = pair_below x y ≡ true

@@ -1,18 +1,18 @@
 -- The stored prefixes of a length are made from those that are one shorter.
-use Rattle.std.proofs.Common.{◌≡◌, ℕ, zero, suc, ◌+◌, ◌<◌, ◌≤◌, Bool, true, false, cond, ◌&&◌, ◌||◌, List, [], ◌∷◌, ◌++◌, Option, Some, None, length, take, eqb, ltb, refl, ap, sym, ◌∙◌, subst, arith, length-append}
+use Rattle.std.proofs.Common.{◌≡◌, ℕ, zero, suc, ◌<◌, ◌≤◌, Bool, true, false, cond, ◌||◌, List, [], ◌∷◌, ◌++◌, Some, length, take, eqb, refl, ap, sym, ◌∙◌, subst, arith}
 use Rattle.std.specs.Prelude.{slice_get, slice_index}
-use Rattle.std.specs.List.{flat_map, filter, list_any, range_with_len}
+use Rattle.std.specs.List.{flat_map, filter, list_any}
 use mathlib.Core.List.{map}
 use Rattle.std.proofs.lemmas.Bool.Decides.{nat_tests}
 use Rattle.std.proofs.lemmas.List.{append-nil, take-append-le, take_at, length_push}
 use Rattle.sam_model.specs.declared.tensors.Format.{Format}
 use Rattle.sam_model.specs.declared.tensors.Format.TheVariants.{Dense, Compressed}
-use Rattle.sam_model.specs.Lists.{below, tuples, same_list, smaller}
+use Rattle.sam_model.specs.Lists.{below, tuples, same_list}
 use Rattle.sam_model.specs.Tensors.{Stored, compressed_until, is_stored, stored_prefixes}
 use Rattle.sam_model.specs.Children.{next_coordinates}
 use Rattle.levels.specs.Each.{Each}
-use Rattle.levels.proofs.Orders.{and-left, and-right, same_list-self, same_list-true}
-use Rattle.levels.proofs.Maps.{map-map, map-ext, flat_map-ext, flat_map-flat_map, flat_map-map, map-flat_map, flat_map-single, filter-ext, filter-map, filter-flat_map, flat_map-filter, filter-none, list_any-ext, list_any-mono, Each-map, Each-always, Each-flat_map, Each-weaker}
+use Rattle.levels.proofs.Orders.{and-left, and-right}
+use Rattle.levels.proofs.Maps.{map-map, flat_map-ext, flat_map-flat_map, flat_map-map, map-flat_map, flat_map-single, filter-map, filter-flat_map, flat_map-filter, filter-none, list_any-mono, Each-map, Each-always, Each-flat_map, Each-weaker}
 
 abbrev pub longer : List ℕ → ℕ → List ℕ
 longer p c = p ++ c ∷ []

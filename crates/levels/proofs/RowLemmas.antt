@@ -1,11 +1,10 @@
 -- Rows and the pairs and values that they have.
-use Rattle.std.proofs.Common.{◌≡◌, ℕ, zero, suc, ◌+◌, ◌<◌, ◌≤◌, List, [], ◌∷◌, length, get_or, take, refl, ap, sym, ◌∙◌, arith}
-use Rattle.std.specs.Prelude.{slice_index, slice_index_or}
-use Rattle.std.specs.List.{zip}
+use Rattle.std.proofs.Common.{◌≡◌, ℕ, zero, suc, ◌<◌, List, [], ◌∷◌, length, get_or, take, refl, ap, arith}
+use Rattle.std.specs.Prelude.{slice_index}
 use mathlib.Core.List.{map}
 use Rattle.levels.specs.declared.rows.Row.{Row}
 use Rattle.levels.specs.Rows.{entry_of, row_pairs, ranked_values}
-use Rattle.levels.specs.Placed.{pairs_at, column}
+use Rattle.levels.specs.Placed.{pairs_at}
 
 pub length-row_pairs : (parents : List ℕ) (place : ℕ) (rows : List Row) → length parents ≡ length rows → length (row_pairs parents place rows) ≡ length rows
 length-row_pairs [] place [] e = refl

@@ -1,5 +1,5 @@
 -- Rows in order, and lists with the same entries.
-use Rattle.std.proofs.Common.{◌≡◌, ℕ, zero, suc, ◌+◌, ◌%◌, ◌^◌, ◌<◌, ◌≤◌, Bool, true, false, cond, ◌&&◌, ◌||◌, List, [], ◌∷◌, length, take, get_or, eqb, ltb, refl, ap, sym, ◌∙◌, subst, arith, Ordering}
+use Rattle.std.proofs.Common.{◌≡◌, ℕ, zero, suc, ◌%◌, ◌^◌, ◌<◌, Bool, true, false, cond, ◌&&◌, ◌||◌, List, [], ◌∷◌, length, take, get_or, eqb, ltb, refl, ap, sym, ◌∙◌, arith, Ordering}
 use Rattle.std.specs.Ordering.{is_lt, nat_cmp, ordering_then}
 use Rattle.std.specs.Cmp.Lexicographic.{slice_cmp, lists_total}
 use Rattle.std.specs.Cmp.{nat_cmp_total}
@@ -11,7 +11,6 @@ use Rattle.std.proofs.lemmas.List.Sorted.{ranks_by, sorted_far, All-permutation,
 use Rattle.std.proofs.lemmas.List.Recursion.{is_sum_by}
 use Rattle.sam_model.specs.Lists.{smaller, same_list, total, tuples}
 use Rattle.sam_model.specs.Tensors.{Stored, compressed_until, is_stored, value_at, stored_prefixes}
-use Rattle.sam_model.specs.Children.{ranked}
 use Rattle.levels.specs.declared.rows.Row.{Row}
 use Rattle.levels.specs.Each.{Each, Sorted}
 use Rattle.levels.specs.Rows.{entry_of}

@@ -1,26 +1,22 @@
 -- From the stored prefixes of a length to the next ones, by places.
-use Rattle.std.proofs.Common.{◌≡◌, ℕ, zero, suc, ◌+◌, ◌-◌, ◌*◌, ◌<◌, ◌≤◌, Bool, true, false, cond, ◌&&◌, ◌||◌, List, [], ◌∷◌, ◌++◌, Option, Some, None, length, take, eqb, ltb, refl, ap, sym, ◌∙◌, subst, arith, append_assoc, length-append, zero-add, inl, inr, ◌⊎◌}
+use Rattle.std.proofs.Common.{◌≡◌, ℕ, zero, suc, ◌+◌, ◌<◌, ◌≤◌, Bool, true, false, ◌&&◌, ◌||◌, List, [], ◌∷◌, ◌++◌, Some, length, take, eqb, ltb, refl, ap, sym, ◌∙◌, arith, append_assoc, length-append, inl, inr, ◌⊎◌}
 use Rattle.std.specs.Prelude.{slice_get, slice_index}
-use Rattle.std.specs.List.{flat_map, filter, list_any, range_with_len, zip}
+use Rattle.std.specs.List.{flat_map, filter, list_any, range_with_len}
 use mathlib.Core.List.{map}
 use Rattle.std.proofs.lemmas.Bool.Decides.{nat_tests}
-use Rattle.std.proofs.lemmas.List.{append-nil}
-use Rattle.std.proofs.lemmas.List.FromFn.{length-range_with_len}
 use Rattle.sam_model.specs.declared.tensors.Format.{Format}
-use Rattle.sam_model.specs.declared.tensors.Format.TheVariants.{Dense, Compressed}
+use Rattle.sam_model.specs.declared.tensors.Format.TheVariants.{Dense}
 use Rattle.sam_model.specs.Lists.{below, same_list, smaller, within}
 use Rattle.sam_model.specs.Tensors.{Stored, is_stored, stored_prefixes, list_at}
 use Rattle.sam_model.specs.Children.{next_coordinates, children_of}
-use Rattle.levels.specs.Arrays.{dense_children, fibers}
 use Rattle.levels.specs.Each.{Each, Sorted}
-use Rattle.levels.specs.Placed.{InOrder, Placed, column, pairs_at}
-use Rattle.levels.specs.Pairs.{same_pair, pair_below, NotAfter, with_pairs, before}
+use Rattle.levels.specs.Placed.{pairs_at}
+use Rattle.levels.specs.Pairs.{same_pair, pair_below, NotAfter}
 use Rattle.levels.proofs.Orders.{same_list-self, same_list-true}
-use Rattle.levels.proofs.Maps.{map-map, map-ext, map-flat_map, flat_map-ext, flat_map-map, filter-ext, filter-all-each, Each-append, Each-map, Each-always, Each-weaker, Each-flat_map, Each-passed, Each-filter}
-use Rattle.levels.proofs.Prefixes.{longer, longer-length, next_prefixes, prefixes-more, stored-dense, stored-compressed}
-use Rattle.levels.proofs.Ascending.{Ascending, prefixes-ascend, ascending-at, same-place, prefixes-long, number_all, children-numbered}
-use Rattle.levels.proofs.PairLemmas.{has, pairs_by, range-inside, below-inside, pairs-by-parents}
-use Rattle.levels.proofs.Views.{dense-numbered, compressed-numbered}
+use Rattle.levels.proofs.Maps.{map-map, map-flat_map, flat_map-ext, flat_map-map, filter-all-each, Each-always, Each-passed}
+use Rattle.levels.proofs.Prefixes.{longer, next_prefixes, prefixes-more, stored-dense}
+use Rattle.levels.proofs.Ascending.{Ascending, ascending-at, same-place, prefixes-long, number_all, children-numbered}
+use Rattle.levels.proofs.PairLemmas.{has, pairs_by}
 
 -- the prefix that a pair stands for
 abbrev pub joined : List (List ℕ) → ℕ × ℕ → List ℕ

@@ -1,6 +1,5 @@
 -- The sum of the values at each rank.
-use Rattle.std.proofs.Common.{◌≡◌, ℕ, zero, suc, ◌+◌, ◌-◌, ◌*◌, ◌%◌, ◌^◌, ◌<◌, ◌≤◌, ◌≢◌, Bool, true, false, cond, List, [], ◌∷◌, ◌++◌, length, take, get_or, set, replicate, eqb, refl, ap, sym, ◌∙◌, subst, arith, add-zero, zero-add, length-set, get_or-set_same, get_or-set_other, inl, inr, ◌⊎◌}
-use Rattle.std.specs.Prelude.{slice_index}
+use Rattle.std.proofs.Common.{◌≡◌, ℕ, zero, suc, ◌+◌, ◌%◌, ◌^◌, ◌<◌, ◌≤◌, ◌≢◌, false, cond, List, [], ◌∷◌, ◌++◌, length, take, get_or, set, replicate, eqb, refl, ap, sym, ◌∙◌, arith, add-zero, zero-add, length-set, get_or-set_same, get_or-set_other, inl, inr, ◌⊎◌}
 use Rattle.std.specs.List.{range_with_len, zip}
 use mathlib.Core.List.{map}
 use Rattle.std.proofs.lemmas.Bool.Decides.{nat_tests}
@@ -12,7 +11,7 @@ use Rattle.sam_model.specs.Tensors.{Stored, stored_prefixes, value_at, list_at}
 use Rattle.sam_model.specs.Children.{values_of}
 use Rattle.levels.specs.declared.rows.Row.{Row}
 use Rattle.levels.specs.Each.{Each}
-use Rattle.levels.specs.Placed.{InOrder, Placed}
+use Rattle.levels.specs.Placed.{Placed}
 use Rattle.levels.specs.Rows.{entry_of, sum_at, ranked_values}
 use Rattle.levels.proofs.Orders.{eqb-same}
 use Rattle.levels.proofs.Maps.{map-map, map-ext}

@@ -1,18 +1,18 @@
 -- What the arrays of a level hold, from the coordinates of each parent.
-use Rattle.std.proofs.Common.{◌≡◌, ℕ, zero, suc, ◌+◌, ◌-◌, ◌*◌, ◌<◌, ◌≤◌, Bool, true, false, cond, List, [], ◌∷◌, ◌++◌, length, take, get_or, eqb, ltb, refl, ap, sym, ◌∙◌, subst, arith, append_assoc, length-append, zero-add}
+use Rattle.std.proofs.Common.{◌≡◌, ℕ, zero, suc, ◌+◌, ◌-◌, ◌*◌, ◌<◌, ◌≤◌, true, false, List, [], ◌∷◌, ◌++◌, length, ltb, refl, ap, sym, ◌∙◌, arith, append_assoc, length-append, zero-add}
 use Rattle.std.specs.Prelude.{slice_index}
-use Rattle.std.specs.List.{flat_map, filter, list_any, range_with_len}
+use Rattle.std.specs.List.{filter, range_with_len}
 use mathlib.Core.List.{map}
 use Rattle.std.proofs.lemmas.Bool.Decides.{nat_tests}
-use Rattle.std.proofs.lemmas.List.{length_push, get_or-append-add, map-append, append-nil}
+use Rattle.std.proofs.lemmas.List.{length_push, map-append, append-nil}
 use Rattle.std.proofs.lemmas.List.FromFn.{length-range_with_len, length-map-range_with_len, get_or-map-range_with_len}
 use Rattle.sam_model.specs.Lists.{below}
 use Rattle.levels.specs.Arrays.{dense_children, fiber, fibers}
 use Rattle.levels.specs.Each.{Each}
 use Rattle.levels.specs.Pairs.{before}
-use Rattle.levels.proofs.Maps.{map-map, map-ext, map-flat_map, flat_map-ext, Each-append, Each-map, Each-always, Each-weaker, Each-flat_map, filter-append, filter-none-each, filter-all-each}
+use Rattle.levels.proofs.Maps.{map-ext, Each-append, Each-map, Each-always, Each-weaker, filter-append, filter-none-each, filter-all-each}
 use Rattle.levels.proofs.Ascending.{number, number_all}
-use Rattle.levels.proofs.PairLemmas.{pairs_by, range-inside, below-inside, parents-from}
+use Rattle.levels.proofs.PairLemmas.{pairs_by, below-inside, parents-from}
 
 -- ---- dense
 

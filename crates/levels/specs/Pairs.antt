@@ -1,5 +1,5 @@
 -- Pairs of a parent and a coordinate: those that rows have, ascending and each once.
-use Rattle.std.specs.Prelude.{◌≡◌, ℕ, Bool, true, false, cond, ◌&&◌, ◌||◌, List, [], ◌∷◌, length, eqb, ltb}
+use Rattle.std.specs.Prelude.{◌≡◌, ℕ, Bool, false, cond, ◌&&◌, ◌||◌, List, [], ◌∷◌, length, eqb, ltb}
 use Rattle.std.specs.List.{filter}
 
 abbrev pub same_pair : ℕ × ℕ → ℕ × ℕ → Bool

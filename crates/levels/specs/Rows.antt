@@ -1,9 +1,9 @@
 -- Rows: the entries of a tensor in storage order.
-use Rattle.std.specs.Prelude.{◌≡◌, ℕ, ◌%◌, ◌^◌, cond, List, length, take, slice_index, eqb}
+use Rattle.std.specs.Prelude.{ℕ, ◌%◌, ◌^◌, cond, List, length, take, slice_index, eqb}
 use Rattle.std.specs.List.{zip}
 use mathlib.Core.List.{map}
 use Rattle.sam_model.specs.declared.tensors.Tensor.{Tensor}
-use Rattle.sam_model.specs.Lists.{items_at, total, below}
+use Rattle.sam_model.specs.Lists.{items_at, total}
 use Rattle.sam_model.specs.Tensors.{Stored}
 use Rattle.levels.specs.declared.rows.Row.{Row}
 

@@ -1,9 +1,8 @@
 -- One level after another.
-use Rattle.std.proofs.Common.{◌≡◌, ◌+◌, ◌<◌, ◌≤◌, ◌++◌, [], ◌∷◌, suc, length, sym, arith, ◌∙◌, ap, rules}
-use Rattle.sam_model.specs.Tensors.{stored_prefixes}
+use Rattle.std.proofs.Common.{suc, length, sym, arith, ◌∙◌, rules}
 use Rattle.levels.specs.Rows.{entry_of, of_rows}
 use Rattle.levels.proofs.Levels.{length-mapped}
-use Rattle.levels.proofs.LoopLemmas.{Made, made-none, made-more}
+use Rattle.levels.proofs.LoopLemmas.{made-none, made-more}
 use Rattle.levels.proofs.build.all_levels.Goals as goal
 
 pub loop-place-init : goal.loop-place-init

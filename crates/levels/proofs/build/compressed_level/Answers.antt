@@ -1,5 +1,5 @@
 -- The pairs ascend, so the segments do.
-use Rattle.std.proofs.Common.{◌≡◌, ◌+◌, ◌<◌, ◌≤◌, [], length, sym, arith, ap, ◌∙◌, ℕ}
+use Rattle.std.proofs.Common.{◌≡◌, ◌+◌, [], ap, ◌∙◌, ℕ}
 use mathlib.Core.List.{map}
 use Rattle.sam_model.specs.Lists.{below}
 use Rattle.levels.specs.Pairs.{with_pairs, before}

@@ -1,5 +1,5 @@
 -- The next level and the next ranks, by the format of the level.
-use Rattle.std.proofs.Common.{◌≡◌, ◌+◌, ◌*◌, ◌<◌, ◌≤◌, [], suc, length, sym, arith, ◌∙◌}
+use Rattle.std.proofs.Common.{◌≡◌, ◌+◌, ◌*◌, ◌<◌, [], suc, length, arith, ◌∙◌}
 use Rattle.std.specs.Prelude.{slice_index_or}
 use mathlib.Core.List.{map}
 use Rattle.sam_model.specs.Tensors.{stored_prefixes}

@@ -1,5 +1,5 @@
 -- Each row adds its value at its rank.
-use Rattle.std.proofs.Common.{◌≡◌, ◌+◌, ◌%◌, ◌^◌, [], set, ◌<◌, ◌≤◌, length, get_or, replicate, sym, arith, rules, ◌∙◌, ap, ℕ}
+use Rattle.std.proofs.Common.{◌≡◌, ◌+◌, ◌%◌, ◌^◌, [], set, ◌<◌, length, get_or, replicate, arith, rules, ◌∙◌, ap, ℕ}
 use Rattle.std.proofs.lemmas.Grind.{common_steps}
 use Rattle.levels.specs.Rows.{ranked_values}
 use Rattle.levels.proofs.Growth.{Each-get}

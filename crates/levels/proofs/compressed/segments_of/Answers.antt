@@ -1,5 +1,5 @@
 -- Between the parents of two neighbours as many pairs have a smaller parent.
-use Rattle.std.proofs.Common.{◌≡◌, ◌+◌, ◌-◌, ◌<◌, ◌≤◌, ◌++◌, length, take, get_or, replicate, vec_len, sym, arith, rules, ◌∙◌, ap, refl, ℕ}
+use Rattle.std.proofs.Common.{◌≡◌, ◌+◌, ◌-◌, ◌++◌, length, take, get_or, replicate, vec_len, arith, ◌∙◌, ap, refl}
 use Rattle.std.proofs.lemmas.Grind.{common_steps}
 use Rattle.levels.proofs.Growth.{segmented-more, segmented-all}
 use Rattle.levels.proofs.compressed.segments_of.Goals as goal

@@ -1,10 +1,9 @@
 -- Each row adds its pair to those of the rows before it.
-use Rattle.std.proofs.Common.{◌≡◌, ◌+◌, ◌<◌, ◌≤◌, ◌++◌, [], ◌∷◌, length, take, get_or, sym, arith, rules, ◌∙◌}
+use Rattle.std.proofs.Common.{◌≡◌, ◌<◌, ◌++◌, [], ◌∷◌, length, sym, arith, rules, ◌∙◌}
 use Rattle.std.proofs.lemmas.List.{take_all}
 use Rattle.std.proofs.lemmas.Grind.{common_steps}
 use Rattle.levels.specs.Rows.{row_pairs}
-use Rattle.levels.specs.Pairs.{with_pair}
-use Rattle.levels.proofs.Growth.{Grown, grown-more, many-more, grown-all}
+use Rattle.levels.proofs.Growth.{grown-more, many-more, grown-all}
 use Rattle.levels.proofs.RowLemmas.{length-row_pairs, row_pairs-at}
 use Rattle.levels.proofs.pairs.distinct_pairs.Goals as goal
 

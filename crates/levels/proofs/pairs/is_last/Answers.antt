@@ -1,7 +1,6 @@
 -- The last item decides.
 use Rattle.std.proofs.Common.{◌≡◌, ◌-◌, Some, length, ◌∙◌, sym}
 use Rattle.std.specs.Prelude.{slice_get}
-use Rattle.levels.specs.Pairs.{same_pair, ends_with}
 use Rattle.levels.proofs.Growth.{ends_with-some}
 use Rattle.levels.proofs.pairs.is_last.Goals as goal
 

@@ -1,7 +1,7 @@
 -- The pair is the last, or it goes to the end.
-use Rattle.std.proofs.Common.{◌≡◌, ◌+◌, ◌<◌, ◌≤◌, true, false, length, sym, arith}
+use Rattle.std.proofs.Common.{◌≡◌, true, false, sym, arith}
 use Rattle.std.proofs.lemmas.Grind.{common_steps}
-use Rattle.levels.specs.Pairs.{ends_with, with_pair}
+use Rattle.levels.specs.Pairs.{ends_with}
 use Rattle.levels.proofs.Growth.{with_pair-last, with_pair-new, ends_with-there, length-last, length-new}
 use Rattle.levels.proofs.pairs.place_of.Goals as goal
 

@@ -1,6 +1,5 @@
 -- The coordinates of an entry stand together, and each is below its dimension.
-use Rattle.std.proofs.Common.{◌≡◌, ◌+◌, ◌*◌, ◌^◌, ◌<◌, ◌≤◌, ◌≢◌, length, get_or, sym, arith, rules, ◌∙◌, ap, ℕ, below_more, length-set, get_or-set_other, get_or-set_same}
-use Rattle.std.proofs.lemmas.Grind.{common_steps}
+use Rattle.std.proofs.Common.{◌≡◌, ◌+◌, ◌*◌, ◌^◌, ◌<◌, ◌≢◌, length, get_or, arith, ◌∙◌, ap, below_more, length-set, get_or-set_other, get_or-set_same}
 use Rattle.levels.proofs.EntryLemmas.{row-start, row-is}
 use Rattle.levels.proofs.rows.row_at.Goals as goal
 

@@ -1,11 +1,11 @@
 -- The rows are the entries, and the sort only moves them.
-use Rattle.std.proofs.Common.{◌≡◌, ◌+◌, ◌<◌, ◌≤◌, [], ◌∷◌, ◌++◌, length, take, get_or, sym, arith, ◌∙◌, ap, subst, List, ℕ, true, rules}
+use Rattle.std.proofs.Common.{◌≡◌, ◌<◌, [], ◌∷◌, ◌++◌, length, get_or, sym, arith, ◌∙◌, ap, subst, List, ℕ, true, rules}
 use mathlib.Core.List.{map}
 use Rattle.std.specs.List.Sorted.{IsPermutation}
 use Rattle.std.proofs.lemmas.List.{map_push, take_more, take_all}
 use Rattle.std.proofs.lemmas.List.Sorted.{IsPermutation-map, answers_always}
 use Rattle.sam_model.specs.Lists.{within, items_at}
-use Rattle.sam_model.specs.Tensors.{stored_as, entry_list}
+use Rattle.sam_model.specs.Tensors.{stored_as}
 use Rattle.levels.specs.declared.rows.Row.{Row}
 use Rattle.levels.specs.Rows.{entry_of}
 use Rattle.levels.proofs.Maps.{Each-weaker}

@@ -1,6 +1,6 @@
 -- The place of a child is within the coordinates.
 use Rattle.std.specs.Prelude.{slice_index}
-use Rattle.std.proofs.Common.{ℕ, ◌≡◌, ◌+◌, ◌<◌, ◌≤◌, length, arith, ◌∙◌}
+use Rattle.std.proofs.Common.{◌≡◌, ◌+◌, arith}
 use Rattle.std.proofs.lemmas.Grind.{common_steps}
 use Rattle.levels.proofs.ReadLemmas.{fibers-in-range, fibers-child, fibers-within}
 use Rattle.levels.proofs.compressed.Compressed.child.Goals as goal

@@ -1,5 +1,5 @@
 -- The segments of a parent and of the next one are there, and they ascend.
-use Rattle.std.proofs.Common.{ℕ, ◌+◌, ◌<◌, ◌≤◌, length, arith, ◌∙◌}
+use Rattle.std.proofs.Common.{arith}
 use Rattle.std.proofs.lemmas.Grind.{common_steps}
 use Rattle.levels.proofs.ReadLemmas.{fibers-in-range, fibers-fiber_len}
 use Rattle.levels.proofs.compressed.Compressed.fiber_len.Goals as goal

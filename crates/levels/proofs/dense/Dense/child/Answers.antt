@@ -1,6 +1,5 @@
 -- The rank of a child is below the number of children, which is small.
-use Rattle.std.proofs.Common.{◌*◌, ◌+◌, ◌<◌, ◌≤◌, ◌^◌, arith, ℕ}
-use Rattle.std.proofs.lemmas.Grind.{common_steps}
+use Rattle.std.proofs.Common.{arith}
 use Rattle.levels.proofs.ReadLemmas.{dense-child, dense-small}
 use Rattle.levels.proofs.dense.Dense.child.Goals as goal
 

@@ -1,7 +1,7 @@
 -- What was made of the sorted rows is what the entries denote.
-use Rattle.std.proofs.Common.{◌≡◌, ◌+◌, ◌^◌, ◌<◌, ◌≤◌, length, sym, arith, ◌∙◌, ap, subst, List, ℕ, rules}
+use Rattle.std.proofs.Common.{◌^◌, ◌<◌, ◌≤◌, length, sym, ◌∙◌, subst, List, ℕ, rules}
 use Rattle.std.specs.List.Sorted.{IsPermutation}
-use Rattle.sam_model.specs.Tensors.{stored_as, stored_prefixes}
+use Rattle.sam_model.specs.Tensors.{stored_as}
 use Rattle.levels.specs.declared.rows.Row.{Row}
 use Rattle.levels.specs.Placed.{InOrder}
 use Rattle.levels.specs.Rows.{entry_of, of_rows}
