@@ -63,9 +63,10 @@ pub too-many :
     ((k : ℕ) × (k ≤ length t.dims) × (POSITIONS_MOST < length (stored_prefixes (stored_as t e) k))) →
     (fault ≡ Tensor t.file TooManyPositions 0) ⊎ (fault ≡ OutOfMemory) → TensorFault files t fault
 too-many files t e fault bytes told arity entries many which =
-    elim which
-      [ inl same ↦ subst (λ f. TensorFault files t f) (sym same) (refl, inr (inr (refl, refl, (bytes, e, told, arity, entries, many))))
-      | inr memory ↦ subst (λ f. TensorFault files t f) (sym memory) tt ]
+    elim which [
+      | inl same ↦ subst (λ f. TensorFault files t f) (sym same) (refl, inr (inr (refl, refl, (bytes, e, told, arity, entries, many))))
+      | inr memory ↦ subst (λ f. TensorFault files t f) (sym memory) tt
+    ]
 
 -- ---- where all files are told and are of the forms
 
@@ -78,9 +79,10 @@ stored-same :
     stored_as t d ≡ stored_as t e
 stored-same t d e same =
     ap (λ (l : List (List ℕ × ℕ)). let stored : Stored = record {
-        formats = t.formats;
-        sizes = items_at t.dims t.order;
-        entries = map {B = List ℕ × ℕ} (λ entry. (items_at entry.0 t.order, entry.1)) l } in stored) same
+      formats = t.formats;
+      sizes = items_at t.dims t.order;
+      entries = map {B = List ℕ × ℕ} (λ entry. (items_at entry.0 t.order, entry.1)) l;
+    } in stored) same
 
 module _ (words : List (List ℕ)) (m : Told) (s : IsServed words m) where
   -- the words name the program that is served, and its text is that
@@ -103,9 +105,10 @@ module _ (words : List (List ℕ)) (m : Told) (s : IsServed words m) where
   comes-served : (t : TensorType) → ComesTo words (Some m) t → Served t
   comes-served t comes =
       let same : comes.vectors ≡ s.vectors = same-vectors comes.name comes.vectors comes.words_name comes.program in
-      elim comes.which
-        [ inl left ↦ subst Served (sym (left ∙ ap left_tensor same)) (s.left_short, (s.left, s.left_read))
-        | inr right ↦ subst Served (sym (right.0 ∙ ap right_tensor same)) (s.right_short, (s.right, s.right_read)) ]
+      elim comes.which [
+        | inl left ↦ subst Served (sym (left ∙ ap left_tensor same)) (s.left_short, (s.left, s.left_read))
+        | inr right ↦ subst Served (sym (right.0 ∙ ap right_tensor same)) (s.right_short, (s.right, s.right_read))
+      ]
 
   not-missing : (o : Option (List ℕ)) (P : List ℕ → Type 0) → o ≡ None → IsSomeAnd o P → ⊥
   not-missing None P none some = some
@@ -119,37 +122,42 @@ module _ (words : List (List ℕ)) (m : Told) (s : IsServed words m) where
   not-refused t kind line served refuses =
       let e = served.1.0 in
       let read = served.1.1 in
-      elim refuses
-        [ inl bad ↦
+      elim refuses [
+        | inl bad ↦
             let same : bad.0 ≡ read.bytes = some-same bad.0 read.bytes (sym (bad.1 m refl) ∙ read.told_bytes m refl) in
             let clash = sym bad.2 ∙ ap (tns_entries t.dims) same ∙ read.entries in
             absurd (cc clash)
         | inr other ↦
-            elim other
-              [ inl long ↦ not-longer (bytes_of m t.file) (long.2 m refl) served.0
+            elim other [
+              | inl long ↦ not-longer (bytes_of m t.file) (long.2 m refl) served.0
               | inr many ↦
                   let it = many.2 in
                   let same : it.0 ≡ read.bytes = some-same it.0 read.bytes (sym (it.2 m refl) ∙ read.told_bytes m refl) in
                   let entries = sym it.4 ∙ ap (tns_entries t.dims) same ∙ read.entries in
                   let count = ap (λ a. length (stored_prefixes a it.5.0)) (stored-same t it.1 e (ok-same _ _ entries)) in
-                  absurd (omega (arith, it.5.2, read.few it.5.0 it.5.1, count)) ] ]
+                  absurd (omega (arith, it.5.2, read.few it.5.0 it.5.1, count))
+            ]
+      ]
 
   not-opened : (name : List ℕ) → Opens words (Some m) name → bytes_of m name ≡ None → ⊥
   not-opened name opens none =
-      elim opens
-        [ inl named ↦ let clash = sym none ∙ ap (bytes_of m) (same-name name named) ∙ s.told_bytes in absurd (cc clash)
+      elim opens [
+        | inl named ↦ let clash = sym none ∙ ap (bytes_of m) (same-name name named) ∙ s.told_bytes in absurd (cc clash)
         | inr tensor ↦
-            not-missing (bytes_of m tensor.0.file) _ (sym (ap (bytes_of m) tensor.1) ∙ none) (comes-served tensor.0 tensor.2).0 ]
+            not-missing (bytes_of m tensor.0.file) _ (sym (ap (bytes_of m) tensor.1) ∙ none) (comes-served tensor.0 tensor.2).0
+      ]
 
   not-unbuilt : IsNotBuilt words (Some m) → ⊥
   not-unbuilt not_built =
-      elim not_built
-        [ inl none ↦ let clash = sym none ∙ s.words_name in absurd (cc clash)
+      elim not_built [
+        | inl none ↦ let clash = sym none ∙ s.words_name in absurd (cc clash)
         | inr it ↦
-            elim it.2
-              [ inl bad ↦
+            elim it.2 [
+              | inl bad ↦
                   let clash = sym bad.2 ∙ ap form_of (same-bytes it.0 bad.0 it.1 bad.1) ∙ s.is_form in absurd (cc clash)
-              | inr long ↦ program-long (bytes_of m s.name) s.told_bytes (subst (λ n. IsSomeAnd (bytes_of m n) (λ text. FILE_MOST < length text)) (same-name it.0 it.1) (long m refl)) ] ]
+              | inr long ↦ program-long (bytes_of m s.name) s.told_bytes (subst (λ n. IsSomeAnd (bytes_of m n) (λ text. FILE_MOST < length text)) (same-name it.0 it.1) (long m refl))
+            ]
+      ]
     where
       program-long : (o : Option (List ℕ)) → o ≡ Some s.bytes → IsSomeAnd o (λ text. FILE_MOST < length text) → ⊥
       program-long None is long = long

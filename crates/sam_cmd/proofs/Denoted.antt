@@ -36,7 +36,7 @@ entries-of-range :
     (Q : List ℕ → Bool) (g : List ℕ → ℕ) (T : ℕ → Bool) (w : ℕ → ℕ) →
     ((c : ℕ) → Q (one c) ≡ T c) → ((c : ℕ) → g (one c) ≡ w c) → (a n : ℕ) →
     map {B = List ℕ × ℕ} (λ x. (x, g x)) (filter Q (flat_map (λ c. map (λ u. c ∷ u) ([] ∷ [])) (range_with_len a n)))
-      ≡ map {B = List ℕ × ℕ} (λ c. (one c, w c)) (filter T (range_with_len a n))
+    ≡ map {B = List ℕ × ℕ} (λ c. (one c, w c)) (filter T (range_with_len a n))
 entries-of-range Q g T w same-test same-number a zero = refl
 entries-of-range Q g T w same-test same-number a (suc n) =
     by_case (T a) (same-test a) (entries-of-range Q g T w same-test same-number (a + 1) n)
@@ -44,11 +44,11 @@ entries-of-range Q g T w same-test same-number a (suc n) =
     by_case :
         (b : Bool) → Q (one a) ≡ b →
         map {B = List ℕ × ℕ} (λ x. (x, g x)) (filter Q (flat_map (λ c. map (λ u. c ∷ u) ([] ∷ [])) (range_with_len (a + 1) n)))
-          ≡ map {B = List ℕ × ℕ} (λ c. (one c, w c)) (filter T (range_with_len (a + 1) n)) →
+        ≡ map {B = List ℕ × ℕ} (λ c. (one c, w c)) (filter T (range_with_len (a + 1) n)) →
         map {B = List ℕ × ℕ} (λ x. (x, g x))
-            (cond (Q (one a)) (one a ∷ filter Q (flat_map (λ c. map (λ u. c ∷ u) ([] ∷ [])) (range_with_len (a + 1) n)))
-              (filter Q (flat_map (λ c. map (λ u. c ∷ u) ([] ∷ [])) (range_with_len (a + 1) n))))
-          ≡ map {B = List ℕ × ℕ} (λ c. (one c, w c)) (cond b (a ∷ filter T (range_with_len (a + 1) n)) (filter T (range_with_len (a + 1) n)))
+        (cond (Q (one a)) (one a ∷ filter Q (flat_map (λ c. map (λ u. c ∷ u) ([] ∷ [])) (range_with_len (a + 1) n)))
+        (filter Q (flat_map (λ c. map (λ u. c ∷ u) ([] ∷ [])) (range_with_len (a + 1) n))))
+        ≡ map {B = List ℕ × ℕ} (λ c. (one c, w c)) (cond b (a ∷ filter T (range_with_len (a + 1) n)) (filter T (range_with_len (a + 1) n)))
     by_case true passes rest = rw (passes, same-number a, rest) refl
     by_case false fails rest = rw (fails, rest) refl
 
@@ -69,7 +69,7 @@ within-range w T m a (suc n) fits = by_case (T a) (within-range w T m (a + 1) n 
     by_case :
         (b : Bool) → list_all {X = List ℕ × ℕ} (λ entry. within (m ∷ []) entry.0) (map {B = List ℕ × ℕ} (λ c. (one c, w c)) (filter T (range_with_len (a + 1) n))) ≡ true →
         list_all {X = List ℕ × ℕ} (λ entry. within (m ∷ []) entry.0)
-          (map {B = List ℕ × ℕ} (λ c. (one c, w c)) (cond b (a ∷ filter T (range_with_len (a + 1) n)) (filter T (range_with_len (a + 1) n)))) ≡ true
+        (map {B = List ℕ × ℕ} (λ c. (one c, w c)) (cond b (a ∷ filter T (range_with_len (a + 1) n)) (filter T (range_with_len (a + 1) n)))) ≡ true
     by_case true rest = let less : ltb a m ≡ true = grind (arith, nat_tests, fits) in rw less rest
     by_case false rest = rest
 

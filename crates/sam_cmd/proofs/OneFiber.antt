@@ -74,10 +74,10 @@ module _ (P Q : ℕ → Bool) (f g : ℕ → ℕ) where
       by_case :
           (p q : Bool) → shared_ranges (a + 1) n ≡ shared_fiber (both_pass (a + 1) n) →
           share (fiber_tokens (cond p (a ∷ filter P (range_with_len (a + 1) n)) (filter P (range_with_len (a + 1) n))))
-            (fiber_tokens (map f (cond p (a ∷ filter P (range_with_len (a + 1) n)) (filter P (range_with_len (a + 1) n)))))
-            (fiber_tokens (cond q (a ∷ filter Q (range_with_len (a + 1) n)) (filter Q (range_with_len (a + 1) n))))
-            (fiber_tokens (map g (cond q (a ∷ filter Q (range_with_len (a + 1) n)) (filter Q (range_with_len (a + 1) n)))))
-            ≡ shared_fiber (cond (p && q) (a ∷ both_pass (a + 1) n) (both_pass (a + 1) n))
+          (fiber_tokens (map f (cond p (a ∷ filter P (range_with_len (a + 1) n)) (filter P (range_with_len (a + 1) n)))))
+          (fiber_tokens (cond q (a ∷ filter Q (range_with_len (a + 1) n)) (filter Q (range_with_len (a + 1) n))))
+          (fiber_tokens (map g (cond q (a ∷ filter Q (range_with_len (a + 1) n)) (filter Q (range_with_len (a + 1) n)))))
+          ≡ shared_fiber (cond (p && q) (a ∷ both_pass (a + 1) n) (both_pass (a + 1) n))
       by_case true true same =
           let equal : eqb a a ≡ true = grind (arith, nat_tests) in
           rw equal (ap (shared_with (Item a) (Item (f a)) (Item (g a))) same)

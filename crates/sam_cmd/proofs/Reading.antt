@@ -19,8 +19,8 @@ use Rattle.sam_cmd.specs.declared.lists.Next.TheVariants.{Both, Left, Right}
 pub drop-get : {A : Type 0} (xs : List A) (n : ℕ) (x : A) → slice_get xs n ≡ Some x → drop n xs ≡ x ∷ drop (n + 1) xs
 drop-get xs n x here =
     drop-cons xs n x (slice_get_within xs n x here)
-      ∙ ap (λ y. y ∷ drop (suc n) xs) (get_or_from_slice_get xs n x x here)
-      ∙ ap (λ k. x ∷ drop k xs) (sym (add-one n))
+    ∙ ap (λ y. y ∷ drop (suc n) xs) (get_or_from_slice_get xs n x x here)
+    ∙ ap (λ k. x ∷ drop k xs) (sym (add-one n))
 
 -- nothing is left at the end
 pub rest-end : {A : Type 0} (out rest whole : List A) → rest ≡ [] → out ++ rest ≡ whole → out ≡ whole
@@ -46,8 +46,8 @@ pub written-head :
     now ≡ out ++ Item (f kid) ∷ [] → now ++ written Item (map f (drop (n + 1) kids)) rest ≡ out ++ written Item (map f (drop n kids)) rest
 written-head f kids n kid out now rest here grew =
     ap (λ l. l ++ written Item (map f (drop (n + 1) kids)) rest) grew
-      ∙ append_assoc out (Item (f kid) ∷ []) (written Item (map f (drop (n + 1) kids)) rest)
-      ∙ ap (λ l. out ++ written Item (map f l) rest) (sym (drop-get kids n kid here))
+    ∙ append_assoc out (Item (f kid) ∷ []) (written Item (map f (drop (n + 1) kids)) rest)
+    ∙ ap (λ l. out ++ written Item (map f l) rest) (sym (drop-get kids n kid here))
 
 -- of the references in range that are left, the first and the others are in range
 module _ (m : ℕ) (refs : List Token) (n : ℕ) (r : Token) (here : slice_get refs n ≡ Some r) (all : ItemsBelow m (drop n refs)) where
@@ -81,9 +81,9 @@ module _
     (d-here : slice_get ds j ≡ Some d) (r-here : slice_get rs j ≡ Some r) where
   pub share-heads :
       share (drop i cs) (drop i ls) (drop j ds) (drop j rs)
-        ≡ merge_step c d (shared_with c l r (share (drop (i + 1) cs) (drop (i + 1) ls) (drop (j + 1) ds) (drop (j + 1) rs)))
-            (share (drop (i + 1) cs) (drop (i + 1) ls) (drop j ds) (drop j rs))
-            (share (drop i cs) (drop i ls) (drop (j + 1) ds) (drop (j + 1) rs))
+      ≡ merge_step c d (shared_with c l r (share (drop (i + 1) cs) (drop (i + 1) ls) (drop (j + 1) ds) (drop (j + 1) rs)))
+      (share (drop (i + 1) cs) (drop (i + 1) ls) (drop j ds) (drop j rs))
+      (share (drop i cs) (drop i ls) (drop (j + 1) ds) (drop (j + 1) rs))
   share-heads =
       share-step _ _ _ _ _ _ _ _ c l d r (drop-get cs i c c-here) (drop-get ls i l l-here) (drop-get ds j d d-here) (drop-get rs j r r-here)
 

@@ -12,14 +12,16 @@ pub reported :
     Comes words files (Err fault) → out.now ≡ out.before → ReportsFault fault err status → Answered words files out err status
 reported words files out err status fault comes nothing report =
     let left : Refused report.told_fault out err status = record { is_status = report.is_status; nothing = nothing; said = report.said } in
-    elim report.which
-      [ inl same ↦ record { answer = Err report.told_fault; comes = subst (λ f. Comes words files (Err f)) (sym same) comes; leaves = left }
-      | inr memory ↦ record { answer = Err report.told_fault; comes = subst (λ f. Comes words files (Err f)) (sym memory) tt; leaves = left } ]
+    elim report.which [
+      | inl same ↦ record { answer = Err report.told_fault; comes = subst (λ f. Comes words files (Err f)) (sym same) comes; leaves = left }
+      | inr memory ↦ record { answer = Err report.told_fault; comes = subst (λ f. Comes words files (Err f)) (sym memory) tt; leaves = left }
+    ]
 
 -- want of memory has its status, however it is told
 pub memory-status :
     (fault : Fault) (err : SinkSpan) (status : ℕ) → fault ≡ OutOfMemory → ReportsFault fault err status → (status ≡ 0) ⊎ (status ≡ 9)
 memory-status fault err status memory report =
-    elim report.which
-      [ inl same ↦ inr (report.is_status ∙ ap status_of (same ∙ memory))
-      | inr told ↦ inr (report.is_status ∙ ap status_of told) ]
+    elim report.which [
+      | inl same ↦ inr (report.is_status ∙ ap status_of (same ∙ memory))
+      | inr told ↦ inr (report.is_status ∙ ap status_of told)
+    ]

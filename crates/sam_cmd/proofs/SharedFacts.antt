@@ -92,7 +92,7 @@ module _ (m : ℕ) where
   along-right c l next each (d ∷ ds) [] all = tt
   along-right c l next each (d ∷ ds) (r ∷ rs) all =
       gone-on RightBelow c d _ _ _ (below-cons m r rs _ all (each ds rs (below-tail m r rs all))) (each (d ∷ ds) (r ∷ rs) all)
-        (along-right c l next each ds rs (below-tail m r rs all))
+      (along-right c l next each ds rs (below-tail m r rs all))
 
   share-right : (cs ls ds rs : List Token) → ItemsBelow m rs → RightBelow (share cs ls ds rs)
   share-right [] ls ds rs all = tt
@@ -121,19 +121,19 @@ module _ (a b : Ranked) where
   pub left-below : IsVector a → ItemsBelow (length a.values) (shared_by a b).left
   left-below vector =
       share-left (length a.values) (coordinate_tokens a) (reference_tokens a) (coordinate_tokens b) (reference_tokens b)
-        (references-below (length a.values) (fiber_at a 1 0) vector.valued)
+      (references-below (length a.values) (fiber_at a 1 0) vector.valued)
 
   pub right-below : IsVector b → ItemsBelow (length b.values) (shared_by a b).right
   right-below vector =
       share-right (length b.values) (coordinate_tokens a) (reference_tokens a) (coordinate_tokens b) (reference_tokens b)
-        (references-below (length b.values) (fiber_at b 1 0) vector.valued)
+      (references-below (length b.values) (fiber_at b 1 0) vector.valued)
 
   pub shared-shape : length (shared_by a b).left ≡ length (shared_by a b).right
   shared-shape = let same = share-lengths (coordinate_tokens a) (reference_tokens a) (coordinate_tokens b) (reference_tokens b) in same.0 ∙ sym same.1
 
   pub products-shape :
       length (shared_by a b).coordinates
-        ≡ length (products (value_tokens a (shared_by a b).left) (value_tokens b (shared_by a b).right))
+      ≡ length (products (value_tokens a (shared_by a b).left) (value_tokens b (shared_by a b).right))
   products-shape =
       let same = share-lengths (coordinate_tokens a) (reference_tokens a) (coordinate_tokens b) (reference_tokens b) in
       let lefts = length-values (on_item (value_at a.values)) (shared_by a b).left in

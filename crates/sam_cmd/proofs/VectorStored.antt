@@ -46,7 +46,7 @@ module _ (Q : List ℕ → Bool) where
 abbrev HasPlace : (List ℕ → ℕ) → ℕ → List (List ℕ) → Type 0
 HasPlace f c xs =
     (length (filter (λ q. smaller q (one c)) xs) < length xs)
-      × (get_or (map f xs) (length (filter (λ q. smaller q (one c)) xs)) 0 ≡ f (one c))
+    × (get_or (map f xs) (length (filter (λ q. smaller q (one c)) xs)) 0 ≡ f (one c))
 
 first-place : (f : List ℕ → ℕ) (a c : ℕ) (rest : List (List ℕ)) → a ≡ c → filter (λ q. smaller q (one c)) rest ≡ [] → HasPlace f c (one a ∷ rest)
 first-place f a c rest same none =
@@ -93,7 +93,7 @@ map-passing f g T a (suc n) same =
     by_case :
         (b : Bool) → T a ≡ b → map f (filter T (range_with_len (a + 1) n)) ≡ map g (filter T (range_with_len (a + 1) n)) →
         map f (cond b (a ∷ filter T (range_with_len (a + 1) n)) (filter T (range_with_len (a + 1) n)))
-          ≡ map g (cond b (a ∷ filter T (range_with_len (a + 1) n)) (filter T (range_with_len (a + 1) n)))
+        ≡ map g (cond b (a ∷ filter T (range_with_len (a + 1) n)) (filter T (range_with_len (a + 1) n)))
     by_case true here rest = let first-same : f a ≡ g a = same a (omega arith) (omega arith) here in rw (first-same, rest) refl
     by_case false here rest = rest
 
@@ -165,10 +165,10 @@ module _ (n : ℕ) (entries : List (List ℕ × ℕ)) where
   is-vector = record {
     root = omega arith;
     valued =
-      each-passing (λ child. second child < length (ranked vector).values) (λ c. (c, rank-here c)) stored-here 0 n
+        each-passing (λ child. second child < length (ranked vector).values) (λ c. (c, rank-here c)) stored-here 0 n
         (λ c from to stored.
-          let place = (has-place (is_stored vector) (value_at vector) 0 n c from to stored).0 in
-          omega (arith, place, length-mapped (value_at vector) (passing (is_stored vector) 0 n)));
+        let place = (has-place (is_stored vector) (value_at vector) 0 n c from to stored).0 in
+        omega (arith, place, length-mapped (value_at vector) (passing (is_stored vector) 0 n)));
   }
 
 -- the product of two vectors of one size
@@ -182,43 +182,43 @@ module _ (n : ℕ) (left right : List (List ℕ × ℕ)) where
 
   shared-is :
       shared_by (ranked (vector n left)) (ranked (vector n right))
-        ≡ shared_fiber (stored-here n left) (stored-here n right) (rank-here n left) (rank-here n right) shared-coordinates
+      ≡ shared_fiber (stored-here n left) (stored-here n right) (rank-here n left) (rank-here n right) shared-coordinates
   shared-is =
       rw (coordinates-are n left, references-are n left, coordinates-are n right, references-are n right)
-        (share-ranges (stored-here n left) (stored-here n right) (rank-here n left) (rank-here n right) 0 n)
+      (share-ranges (stored-here n left) (stored-here n right) (rank-here n left) (rank-here n right) 0 n)
 
   values-left :
       value_tokens (ranked (vector n left)) (fiber_tokens (map (rank-here n left) shared-coordinates))
-        ≡ fiber_tokens (map (λ c. value_at (vector n left) (one c)) shared-coordinates)
+      ≡ fiber_tokens (map (λ c. value_at (vector n left) (one c)) shared-coordinates)
   values-left =
       array-fiber _ _
-        ∙ ap fiber_tokens
-            (map-map (value_of_rank (ranked (vector n left)).values) (rank-here n left) shared-coordinates
-              ∙ map-passing _ _ (λ c. stored-here n left c && stored-here n right c) 0 n
-                  (λ c from to both. value-here n left c from to (both-left _ _ both)))
+      ∙ ap fiber_tokens
+      (map-map (value_of_rank (ranked (vector n left)).values) (rank-here n left) shared-coordinates
+      ∙ map-passing _ _ (λ c. stored-here n left c && stored-here n right c) 0 n
+      (λ c from to both. value-here n left c from to (both-left _ _ both)))
 
   values-right :
       value_tokens (ranked (vector n right)) (fiber_tokens (map (rank-here n right) shared-coordinates))
-        ≡ fiber_tokens (map (λ c. value_at (vector n right) (one c)) shared-coordinates)
+      ≡ fiber_tokens (map (λ c. value_at (vector n right) (one c)) shared-coordinates)
   values-right =
       array-fiber _ _
-        ∙ ap fiber_tokens
-            (map-map (value_of_rank (ranked (vector n right)).values) (rank-here n right) shared-coordinates
-              ∙ map-passing _ _ (λ c. stored-here n left c && stored-here n right c) 0 n
-                  (λ c from to both. value-here n right c from to (both-right _ _ both)))
+      ∙ ap fiber_tokens
+      (map-map (value_of_rank (ranked (vector n right)).values) (rank-here n right) shared-coordinates
+      ∙ map-passing _ _ (λ c. stored-here n left c && stored-here n right c) 0 n
+      (λ c from to both. value-here n right c from to (both-right _ _ both)))
 
   kept-is :
       kept_by (ranked (vector n left)) (ranked (vector n right))
-        ≡ (fiber_tokens shared-coordinates, fiber_tokens (map product-at shared-coordinates))
+      ≡ (fiber_tokens shared-coordinates, fiber_tokens (map product-at shared-coordinates))
   kept-is =
       rw (shared-is, values-left, values-right)
-        (ap (present (fiber_tokens shared-coordinates))
-            (products-fiber (λ c. value_at (vector n left) (one c)) (λ c. value_at (vector n right) (one c)) shared-coordinates)
-          ∙ present-fiber product-at shared-coordinates)
+      (ap (present (fiber_tokens shared-coordinates))
+      (products-fiber (λ c. value_at (vector n left) (one c)) (λ c. value_at (vector n right) (one c)) shared-coordinates)
+      ∙ present-fiber product-at shared-coordinates)
 
   pub product-is :
       product_written (ranked (vector n left)) (ranked (vector n right)) ≡ one_level shared-coordinates (map product-at shared-coordinates)
   product-is =
       ap (λ p. one_level (items_in p.0) (items_in p.1)) kept-is
-        ∙ ap (λ l. one_level l (items_in (fiber_tokens (map product-at shared-coordinates)))) (items-fiber shared-coordinates)
-        ∙ ap (one_level shared-coordinates) (items-fiber (map product-at shared-coordinates))
+      ∙ ap (λ l. one_level l (items_in (fiber_tokens (map product-at shared-coordinates)))) (items-fiber shared-coordinates)
+      ∙ ap (one_level shared-coordinates) (items-fiber (map product-at shared-coordinates))

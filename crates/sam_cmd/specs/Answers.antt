@@ -79,18 +79,18 @@ Opens words told name = (program_named words ≡ Some name) ⊎ ((t : TensorType
 abbrev pub IsNotBuilt : List (List ℕ) → Option Told → Type 0
 IsNotBuilt words told =
     (program_named words ≡ None)
-      ⊎ ((name : List ℕ) × (program_named words ≡ Some name)
-        × (((bytes : List ℕ) × Tells told name bytes × (form_of bytes ≡ None)) ⊎ LongerThan told name FILE_MOST))
+    ⊎ ((name : List ℕ) × (program_named words ≡ Some name)
+    × (((bytes : List ℕ) × Tells told name bytes × (form_of bytes ≡ None)) ⊎ LongerThan told name FILE_MOST))
 
 -- a tensor's file is refused, for this reason at this line
 abbrev pub RefusesTensor : Option Told → TensorType → TnsKind → ℕ → Type 0
 RefusesTensor told t kind line =
     ((bytes : List ℕ) × Tells told t.file bytes × (tns_entries t.dims bytes ≡ Err (kind, line)))
-      ⊎ ((kind ≡ FileTooLong) × (line ≡ 0) × LongerThan told t.file FILE_MOST)
-      ⊎ ((kind ≡ TooManyPositions) × (line ≡ 0)
-        × ((bytes : List ℕ) × (e : Entries) × Tells told t.file bytes × (e.arity ≡ length t.dims)
-          × (tns_entries t.dims bytes ≡ Ok (entry_list e.arity e.coords e.values))
-          × ((k : ℕ) × (k ≤ length t.dims) × (POSITIONS_MOST < length (stored_prefixes (stored_as t e) k)))))
+    ⊎ ((kind ≡ FileTooLong) × (line ≡ 0) × LongerThan told t.file FILE_MOST)
+    ⊎ ((kind ≡ TooManyPositions) × (line ≡ 0)
+    × ((bytes : List ℕ) × (e : Entries) × Tells told t.file bytes × (e.arity ≡ length t.dims)
+    × (tns_entries t.dims bytes ≡ Ok (entry_list e.arity e.coords e.values))
+    × ((k : ℕ) × (k ≤ length t.dims) × (POSITIONS_MOST < length (stored_prefixes (stored_as t e) k)))))
 
 -- a result: what it was made of
 pub record Computes (words : List (List ℕ)) (told : Option Told) (text : List ℕ) : Type 0 where

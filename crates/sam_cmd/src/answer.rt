@@ -59,18 +59,16 @@ fn text<F: Files>(alloc: Global, files: &mut F, name: &Name) -> Result<Option<Na
     ensures faults { F.faults files.old ≤ F.faults files.new }
     ensures misses { F.misses files.old ≤ F.misses files.new }
     ensures ok { IfOk result (GivesText (F.told files.old) name.now) }
-    ensures err {
-        IfErr result
-            (FileFault
-                (record {
-                    told = F.told files.old;
-                    faults_before = F.faults files.old;
-                    faults_now = F.faults files.new;
-                    misses_before = F.misses files.old;
-                    misses_now = F.misses files.new
-                })
-                name.now)
-    }
+    ensures err { IfErr result
+        (FileFault
+        (record {
+          told = F.told files.old;
+          faults_before = F.faults files.old;
+          faults_now = F.faults files.new;
+          misses_before = F.misses files.old;
+          misses_now = F.misses files.new;
+        })
+        name.now) }
 {
     match read_whole(alloc, files, name) {
         Ok(text) => Ok(Some(text)),
@@ -87,18 +85,16 @@ fn program<F: Files>(alloc: Global, files: &mut F, name: &Name) -> Result<Progra
     ensures faults { F.faults files.old ≤ F.faults files.new }
     ensures misses { F.misses files.old ≤ F.misses files.new }
     ensures ok { IfOk result (GivesProgram (F.told files.old) name.now) }
-    ensures err {
-        IfErr result
-            (ProgramFault
-                (record {
-                    told = F.told files.old;
-                    faults_before = F.faults files.old;
-                    faults_now = F.faults files.new;
-                    misses_before = F.misses files.old;
-                    misses_now = F.misses files.new
-                })
-                name.now)
-    }
+    ensures err { IfErr result
+        (ProgramFault
+        (record {
+          told = F.told files.old;
+          faults_before = F.faults files.old;
+          faults_now = F.faults files.new;
+          misses_before = F.misses files.old;
+          misses_now = F.misses files.new;
+        })
+        name.now) }
 {
     match text(alloc, files, name)? {
         None => Err(Fault::NotBuilt),
@@ -117,18 +113,16 @@ fn entries<F: Files>(alloc: Global, files: &mut F, t: &Tensor) -> Result<Entries
     ensures faults { F.faults files.old ≤ F.faults files.new }
     ensures misses { F.misses files.old ≤ F.misses files.new }
     ensures ok { IfOk result (GivesEntries (F.told files.old) t.now) }
-    ensures err {
-        IfErr result
-            (TensorFault
-                (record {
-                    told = F.told files.old;
-                    faults_before = F.faults files.old;
-                    faults_now = F.faults files.new;
-                    misses_before = F.misses files.old;
-                    misses_now = F.misses files.new
-                })
-                t.now)
-    }
+    ensures err { IfErr result
+        (TensorFault
+        (record {
+          told = F.told files.old;
+          faults_before = F.faults files.old;
+          faults_now = F.faults files.new;
+          misses_before = F.misses files.old;
+          misses_now = F.misses files.new;
+        })
+        t.now) }
 {
     let Some(text) = text(alloc, files, &t.file)? else {
         return Err(refused(alloc, &t.file, TnsKind::FileTooLong, 0));
@@ -149,40 +143,41 @@ fn storage<F: Files>(alloc: Global, files: &mut F, t: &Tensor) -> Result<Storage
     ensures faults { F.faults files.old ≤ F.faults files.new }
     ensures misses { F.misses files.old ≤ F.misses files.new }
     ensures ok { IfOk result (GivesStorage (F.told files.old) t.now) }
-    ensures err {
-        IfErr result
-            (TensorFault
-                (record {
-                    told = F.told files.old;
-                    faults_before = F.faults files.old;
-                    faults_now = F.faults files.new;
-                    misses_before = F.misses files.old;
-                    misses_now = F.misses files.new
-                })
-                t.now)
-    }
+    ensures err { IfErr result
+        (TensorFault
+        (record {
+          told = F.told files.old;
+          faults_before = F.faults files.old;
+          faults_now = F.faults files.new;
+          misses_before = F.misses files.old;
+          misses_now = F.misses files.new;
+        })
+        t.now) }
 {
     let entries = entries(alloc, files, t)?;
     match Storage::build(alloc, &entries, t) {
         Ok(storage) => Ok(storage),
-        Err(BuildFault::TooManyPositions) => Err(refused(alloc, &t.file, TnsKind::TooManyPositions, 0)),
+        Err(BuildFault::TooManyPositions) => Err(refused(
+            alloc,
+            &t.file,
+            TnsKind::TooManyPositions,
+            0,
+        )),
         Err(BuildFault::OutOfMemory) => Err(Fault::OutOfMemory),
     }
 }
 
 /// What a command answers: the text that it writes, or why there is none.
 pub fn answer<F: Files>(alloc: Global, words: &[String], files: &mut F) -> Result<Name, Fault>
-    ensures {
-        Comes (map string_bytes words.now)
-            (record {
-                told = F.told files.old;
-                faults_before = F.faults files.old;
-                faults_now = F.faults files.new;
-                misses_before = F.misses files.old;
-                misses_now = F.misses files.new
-            })
-            result
-    }
+    ensures { Comes (map string_bytes words.now)
+        (record {
+          told = F.told files.old;
+          faults_before = F.faults files.old;
+          faults_now = F.faults files.new;
+          misses_before = F.misses files.old;
+          misses_now = F.misses files.new;
+        })
+        result }
 {
     let Some(word) = program_named(words) else {
         return Err(Fault::NotBuilt);

@@ -70,11 +70,9 @@ fn dimension(digits: &[u8]) -> Option<u64>
 /// Reads a line that declares a vector, behind its head.
 fn tensor_line<'a>(head: &[u8], text: &'a [u8]) -> Option<Declared<'a>>
     ensures none { IfNone result (line_of head.now text.now ≡ None) }
-    ensures some {
-        IfSome result
-            (λ line. line_of head.now text.now
-                ≡ Some (record { size = line.size.now; file = line.file.now; rest = line.rest.now }))
-    }
+    ensures some { IfSome result
+        (λ line. line_of head.now text.now
+        ≡ Some (record { size = line.size.now; file = line.file.now; rest = line.rest.now })) }
 {
     let text = after(head, text)?;
     let digits = digit_count(text);
@@ -115,10 +113,8 @@ struct TwoVectors<'a> {
 /// Reads a text of the form.
 fn two_vectors<'a>(text: &'a [u8]) -> Option<TwoVectors<'a>>
     ensures none { IfNone result (form_of text.now ≡ None) }
-    ensures some {
-        IfSome result
-            (λ v. form_of text.now ≡ Some (record { size = v.size; left = v.left.now; right = v.right.now }))
-    }
+    ensures some { IfSome result
+        (λ v. form_of text.now ≡ Some (record { size = v.size; left = v.left.now; right = v.right.now })) }
     ensures least { IfSome result (λ v. 1 ≤ v.size) }
     ensures most { IfSome result (λ v. v.size ≤ DIMENSION_MOST) }
 {
@@ -180,10 +176,8 @@ fn product_term(alloc: Global) -> Result<Term, AllocError>
 
 /// The program that such vectors make.
 fn product_of(alloc: Global, vectors: &TwoVectors) -> Result<Program, AllocError>
-    ensures {
-        IfOk result
-            (λ p. p ≡ program_of (record { size = vectors.now.size; left = vectors.now.left.now; right = vectors.now.right.now }))
-    }
+    ensures { IfOk result
+        (λ p. p ≡ program_of (record { size = vectors.now.size; left = vectors.now.left.now; right = vectors.now.right.now })) }
 {
     let mut tensors = Items::new(alloc);
     tensors.push(vector(alloc, b"b", vectors.size, vectors.left)?)?;

@@ -12,6 +12,8 @@ mod form;
 mod lists;
 mod product;
 mod report;
+#[cfg(test)]
+mod tests;
 
 use answer::answer;
 use report::{report, say};
@@ -30,46 +32,42 @@ pub fn sam_serial<F: Files, O: Sink, E: Sink>(
     out: &mut O,
     err: &mut E,
 ) -> u8
-    ensures answered {
-        Answered (map string_bytes words.now)
-            (record {
-                told = F.told files.old;
-                faults_before = F.faults files.old;
-                faults_now = F.faults files.new;
-                misses_before = F.misses files.old;
-                misses_now = F.misses files.new
-            })
-            (record {
-                before = O.written out.old;
-                now = O.written out.new;
-                faults_before = O.faults out.old;
-                faults_now = O.faults out.new
-            })
-            (record {
-                before = E.written err.old;
-                now = E.written err.new;
-                faults_before = E.faults err.old;
-                faults_now = E.faults err.new
-            })
-            result
-    }
-    ensures complete {
-        Complete (map string_bytes words.now)
-            (record {
-                told = F.told files.old;
-                faults_before = F.faults files.old;
-                faults_now = F.faults files.new;
-                misses_before = F.misses files.old;
-                misses_now = F.misses files.new
-            })
-            (record {
-                before = O.written out.old;
-                now = O.written out.new;
-                faults_before = O.faults out.old;
-                faults_now = O.faults out.new
-            })
-            result
-    }
+    ensures answered { Answered (map string_bytes words.now)
+        (record {
+          told = F.told files.old;
+          faults_before = F.faults files.old;
+          faults_now = F.faults files.new;
+          misses_before = F.misses files.old;
+          misses_now = F.misses files.new;
+        })
+        (record {
+          before = O.written out.old;
+          now = O.written out.new;
+          faults_before = O.faults out.old;
+          faults_now = O.faults out.new;
+        })
+        (record {
+          before = E.written err.old;
+          now = E.written err.new;
+          faults_before = E.faults err.old;
+          faults_now = E.faults err.new;
+        })
+        result }
+    ensures complete { Complete (map string_bytes words.now)
+        (record {
+          told = F.told files.old;
+          faults_before = F.faults files.old;
+          faults_now = F.faults files.new;
+          misses_before = F.misses files.old;
+          misses_now = F.misses files.new;
+        })
+        (record {
+          before = O.written out.old;
+          now = O.written out.new;
+          faults_before = O.faults out.old;
+          faults_now = O.faults out.new;
+        })
+        result }
     // no call at all was made on them, and not only nothing written
     ensures quiet { result ≡ 0 → err.new ≡ err.old }
     ensures untouched { result ≢ 0 → result ≢ 7 → out.new ≡ out.old }

@@ -59,14 +59,10 @@ impl Side {
 
     /// Appends a coordinate with its value, unless that is absent.
     fn keep(&mut self, coordinate: Token, value: Token) -> Result<(), AllocError>
-        ensures coordinates {
-            OnOk result
-                ((rest : Pairs) → self.new.coordinates ++ rest.0 ≡ self.old.coordinates ++ (keep_pair coordinate value rest).0)
-        }
-        ensures values {
-            OnOk result
-                ((rest : Pairs) → self.new.payloads ++ rest.1 ≡ self.old.payloads ++ (keep_pair coordinate value rest).1)
-        }
+        ensures coordinates { OnOk result
+            ((rest : Pairs) → self.new.coordinates ++ rest.0 ≡ self.old.coordinates ++ (keep_pair coordinate value rest).0) }
+        ensures values { OnOk result
+            ((rest : Pairs) → self.new.payloads ++ rest.1 ≡ self.old.payloads ++ (keep_pair coordinate value rest).1) }
     {
         match (coordinate, value) {
             (Token::Item(_), Token::Empty) => Ok(()),
@@ -95,16 +91,12 @@ pub fn scan(alloc: Global, storage: &Storage, references: &Stream) -> Result<Sid
 /// Appends the children of a reference, with theirs.
 fn scan_fiber(storage: &Storage, reference: u64, side: &mut Side) -> Result<(), AllocError>
     requires stored { reference < length (children_at storage.now 1) }
-    ensures coordinates {
-        OnOk result
-            ((rest : List Token) → side.new.coordinates ++ rest
-                ≡ side.old.coordinates ++ written Item (map first (fiber_at storage.now 1 reference)) rest)
-    }
-    ensures payloads {
-        OnOk result
-            ((rest : List Token) → side.new.payloads ++ rest
-                ≡ side.old.payloads ++ written Item (map second (fiber_at storage.now 1 reference)) rest)
-    }
+    ensures coordinates { OnOk result
+        ((rest : List Token) → side.new.coordinates ++ rest
+        ≡ side.old.coordinates ++ written Item (map first (fiber_at storage.now 1 reference)) rest) }
+    ensures payloads { OnOk result
+        ((rest : List Token) → side.new.payloads ++ rest
+        ≡ side.old.payloads ++ written Item (map second (fiber_at storage.now 1 reference)) rest) }
 {
     for n in 0..storage.fiber_len(1, reference) {
         let (coordinate, child) = storage.child(1, reference, n);
@@ -231,15 +223,9 @@ pub fn drop_absent(alloc: Global, coordinates: &Stream, values: &Stream) -> Resu
 pub fn intersect(alloc: Global, left: &Side, right: &Side) -> Result<Met, AllocError>
     requires left { length left.now.coordinates ≡ length left.now.payloads }
     requires right { length right.now.coordinates ≡ length right.now.payloads }
-    ensures coordinates {
-        IfOk result (λ met. met.coordinates ≡ (share left.now.coordinates left.now.payloads right.now.coordinates right.now.payloads).coordinates)
-    }
-    ensures left {
-        IfOk result (λ met. met.left ≡ (share left.now.coordinates left.now.payloads right.now.coordinates right.now.payloads).left)
-    }
-    ensures right {
-        IfOk result (λ met. met.right ≡ (share left.now.coordinates left.now.payloads right.now.coordinates right.now.payloads).right)
-    }
+    ensures coordinates { IfOk result (λ met. met.coordinates ≡ (share left.now.coordinates left.now.payloads right.now.coordinates right.now.payloads).coordinates) }
+    ensures left { IfOk result (λ met. met.left ≡ (share left.now.coordinates left.now.payloads right.now.coordinates right.now.payloads).left) }
+    ensures right { IfOk result (λ met. met.right ≡ (share left.now.coordinates left.now.payloads right.now.coordinates right.now.payloads).right) }
 {
     let mut met = Met::new(alloc);
     let mut i = 0;

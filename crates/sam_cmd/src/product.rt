@@ -24,13 +24,16 @@ use stream_tokens::{Stream, Token};
 use tns_io::result_text;
 
 /// The text of the product of two stored vectors.
-pub fn product_text(alloc: Global, p: &Program, left: &Storage, right: &Storage) -> Result<Name, AllocError>
+pub fn product_text(
+    alloc: Global,
+    p: &Program,
+    left: &Storage,
+    right: &Storage,
+) -> Result<Name, AllocError>
     requires { IsProductOf p.now left.now right.now }
-    ensures {
-        (v : TwoVectors) (l r : Entries) → p.now ≡ program_of v → left.now ≡ ranked (stored_as (left_tensor v) l) →
-            right.now ≡ ranked (stored_as (right_tensor v) r) →
-            IfOk result (λ text. text ≡ denoted_text (program_of v) (l ∷ r ∷ []))
-    }
+    ensures { (v : TwoVectors) (l r : Entries) → p.now ≡ program_of v → left.now ≡ ranked (stored_as (left_tensor v) l) →
+        right.now ≡ ranked (stored_as (right_tensor v) r) →
+        IfOk result (λ text. text ≡ denoted_text (program_of v) (l ∷ r ∷ [])) }
 {
     let written = product(alloc, left, right)?;
     result_text(alloc, &p.result, &written)
@@ -68,10 +71,8 @@ fn values(alloc: Global, left: &Storage, right: &Storage, met: &Met) -> Result<S
     requires left { ItemsBelow (length left.now.values) met.now.left }
     requires right { ItemsBelow (length right.now.values) met.now.right }
     requires shape { length met.now.left ≡ length met.now.right }
-    ensures {
-        IfOk result
-            (λ stream. stream ≡ products_of (value_tokens left.now met.now.left) (value_tokens right.now met.now.right))
-    }
+    ensures { IfOk result
+        (λ stream. stream ≡ products_of (value_tokens left.now met.now.left) (value_tokens right.now met.now.right)) }
 {
     let left_values = array(alloc, left, &met.left)?;
     let right_values = array(alloc, right, &met.right)?;

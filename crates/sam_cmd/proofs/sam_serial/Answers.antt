@@ -11,14 +11,14 @@ returns-clause-answered g c = reported _ _ _ _ _ _ c.in-Err.ensures refl c.repor
 pub returns-clause-complete : goal.returns-clause-complete
 returns-clause-complete g c = λ m told served faults out_faults.
     let comes = subst
-          (λ t. Comes (map string_bytes c.args.words.now)
-            (record {
-                told = t;
-                faults_before = g.F.Files.faults c.args.files.now;
-                faults_now = g.F.Files.faults c.answer.new.files;
-                misses_before = g.F.Files.misses c.args.files.now;
-                misses_now = g.F.Files.misses c.answer.new.files
-              })
-            (Err c.in-Err.fault))
-          told c.in-Err.ensures in
+    (λ t. Comes (map string_bytes c.args.words.now)
+    (record {
+      told = t;
+      faults_before = g.F.Files.faults c.args.files.now;
+      faults_now = g.F.Files.faults c.answer.new.files;
+      misses_before = g.F.Files.misses c.args.files.now;
+      misses_now = g.F.Files.misses c.answer.new.files;
+    })
+    (Err c.in-Err.fault))
+    told c.in-Err.ensures in
     memory-status c.in-Err.fault _ _ (served-fault (map string_bytes c.args.words.now) m served _ _ _ _ c.in-Err.fault faults comes) c.report.ensures

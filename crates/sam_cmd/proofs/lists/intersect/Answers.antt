@@ -38,7 +38,7 @@ pub heads-preserved-in-Both : goal.heads-preserved-in-Both
 heads-preserved-in-Both c =
     let e = c.in_ok-push-in-Both.ensures in
     let heads = share-heads c.args.left.now.coordinates c.args.left.now.payloads c.args.right.now.coordinates c.args.right.now.payloads
-          c.heads.i c.heads.j _ _ _ _ c.get-coordinate.ensures c.get-in-Both.ensures c.get.ensures c.get-in-Both-2.ensures in
+    c.heads.i c.heads.j _ _ _ _ c.get-coordinate.ensures c.get-in-Both.ensures c.get.ensures c.get-in-Both-2.ensures in
     record {
       left_within = omega arith;
       right_within = omega arith;
@@ -50,7 +50,7 @@ heads-preserved-in-Left c = record {
   left_within = omega arith;
   right_within = omega arith;
   shares =
-    left-goes-on _ _ _ _ c.heads.i c.heads.j _ _ _ _ c.get-coordinate.ensures c.get.ensures c.requires.left c.requires.right
+      left-goes-on _ _ _ _ c.heads.i c.heads.j _ _ _ _ c.get-coordinate.ensures c.get.ensures c.requires.left c.requires.right
       c.heads.invariant.shares c.in-Left.ensures;
 }
 
@@ -59,6 +59,6 @@ heads-preserved c = record {
   left_within = omega arith;
   right_within = omega arith;
   shares =
-    right-goes-on _ _ _ _ c.heads.i c.heads.j _ _ _ _ c.get-coordinate.ensures c.get.ensures c.requires.left c.requires.right
+      right-goes-on _ _ _ _ c.heads.i c.heads.j _ _ _ _ c.get-coordinate.ensures c.get.ensures c.requires.left c.requires.right
       c.heads.invariant.shares c.in-Right.ensures;
 }

@@ -9,7 +9,7 @@ invariant-heads l = record {
   left_within : l.i ≤ length l.left.coordinates;
   right_within : l.j ≤ length l.right.coordinates;
   shares :
-    Shares (record { coordinates = l.met.coordinates; left = l.met.left; right = l.met.right })
+      Shares (record { coordinates = l.met.coordinates; left = l.met.left; right = l.met.right })
       (share (drop l.i l.left.coordinates) (drop l.i l.left.payloads) (drop l.j l.right.coordinates) (drop l.j l.right.payloads))
       (share l.left.coordinates l.left.payloads l.right.coordinates l.right.payloads);
 }

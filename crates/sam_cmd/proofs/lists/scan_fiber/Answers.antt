@@ -10,9 +10,9 @@ loop-n-preserved c =
     let here = c.child-coordinate.ensures in
     record {
       coordinates = λ rest.
-        written-head first kids c.loop-n.n _ c.loop-n.side.coordinates _ rest here c.in_ok-push.ensures.coordinates
+          written-head first kids c.loop-n.n _ c.loop-n.side.coordinates _ rest here c.in_ok-push.ensures.coordinates
           ∙ c.loop-n.invariant.coordinates rest;
       payloads = λ rest.
-        written-head second kids c.loop-n.n _ c.loop-n.side.payloads _ rest here c.in_ok-push.ensures.payloads
+          written-head second kids c.loop-n.n _ c.loop-n.side.payloads _ rest here c.in_ok-push.ensures.payloads
           ∙ c.loop-n.invariant.payloads rest;
     }

@@ -12,9 +12,9 @@ invariant-loop-n l =
     let kids = fiber_at l.storage 1 l.reference in
     record {
       coordinates :
-        (rest : List Token) → l.side.coordinates ++ written Item (map first (drop l.n kids)) rest
+          (rest : List Token) → l.side.coordinates ++ written Item (map first (drop l.n kids)) rest
           ≡ l.initial.side.coordinates ++ written Item (map first kids) rest;
       payloads :
-        (rest : List Token) → l.side.payloads ++ written Item (map second (drop l.n kids)) rest
+          (rest : List Token) → l.side.payloads ++ written Item (map second (drop l.n kids)) rest
           ≡ l.initial.side.payloads ++ written Item (map second kids) rest;
     }

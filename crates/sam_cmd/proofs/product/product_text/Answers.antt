@@ -19,7 +19,7 @@ result_text-requires c =
     let r = c.requires in
     let v = r.vectors in
     let written : c.in_ok-written.written ≡ one_level (zs v r.left_entries r.right_entries) (map (numbers v r.left_entries r.right_entries) (zs v r.left_entries r.right_entries))
-          = c.in_ok-written.ensures ∙ written-of v r.left_entries r.right_entries _ _ r.left_stored r.right_stored in
+    = c.in_ok-written.ensures ∙ written-of v r.left_entries r.right_entries _ _ r.left_stored r.right_stored in
     record {
       dims = rw r.is_program (size-fits v.size r.most);
       in_range = rw (r.is_program, written) (in-range v r.left_entries r.right_entries);
@@ -30,5 +30,5 @@ pub returns : goal.returns
 returns c = λ v l r is_program left right.
     let written : c.in_ok-written.written ≡ one_level (zs v l r) (map (numbers v l r) (zs v l r)) = c.in_ok-written.ensures ∙ written-of v l r _ _ left right in
     let same = ap (λ p. listing_text p.result.order (listing c.in_ok-written.written)) is_program
-          ∙ ap (λ w. listing_text (0 ∷ []) (listing w)) written ∙ text-is v l r in
+    ∙ ap (λ w. listing_text (0 ∷ []) (listing w)) written ∙ text-is v l r in
     subst (λ text. IfOk c.result_text.result (λ t. t ≡ text)) same c.result_text.ensures
