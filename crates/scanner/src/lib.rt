@@ -5,3 +5,6 @@ mod scan;
 mod state;
 
 pub use scan::Scanner;
+
+#[cfg(test)]
+mod tests;

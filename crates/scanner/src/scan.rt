@@ -1,6 +1,6 @@
 //! The level scanner.
 
-ghost use Rattle.std.specs.Prelude.{◌≡◌, ◌<◌, ◌≤◌, ℕ, ◌+◌, List, [], length, get_or, false, slice_get, Some, IsOk, IfOk, IfErr, IsTrue};
+ghost use Rattle.std.specs.Prelude.{◌≡◌, ◌<◌, ℕ, ◌+◌, List, [], length, get_or, false, slice_get, Some, IsOk, IfOk, IfErr, IsTrue};
 ghost use Rattle.block_core.specs.Move.{Taking, Putting};
 ghost use Rattle.block_core.specs.Ports.{Streams};
 ghost use Rattle.block_core.specs.Kind.{ScanKind, Fits, moves};
@@ -32,7 +32,7 @@ pub struct Scanner<'a> {
 impl<'a> Scanner<'a> {
     /// The scanner of a level of a stored tensor; levels count from 1.
     pub fn new(storage: &'a Storage, level: u8) -> Scanner<'a>
-        requires { (0 < level) × (level ≤ length storage.now.children) }
+        requires { 0 < level }
         ensures same_kind { ⟦<Scanner<'a> as BlockStep>⟧.kind result ≡ ScanKind (children_at storage.now level) }
         ensures sure { ⟦<Scanner<'a> as BlockStep>⟧.may_refuse result ≡ false }
         ensures starts { (s : Streams) → Fits (ScanKind (children_at storage.now level)) s → ⟦<Scanner<'a> as BlockStep>⟧.stands result s 0 }
