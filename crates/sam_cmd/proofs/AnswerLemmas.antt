@@ -1,5 +1,5 @@
 -- How the faults of single steps are those of a command, and what a command that is served can answer.
-use Rattle.std.proofs.Common.{◌≡◌, ℕ, ◌+◌, ◌≤◌, ◌<◌, ◌^◌, inl, inr, List, length, refl, sym, ap, ◌∙◌, subst, arith}
+use Rattle.std.proofs.Common.{◌≡◌, ℕ, ◌≤◌, ◌<◌, inl, inr, List, length, refl, sym, ap, ◌∙◌, subst, arith}
 use Rattle.std.specs.Prelude.{◌⊎◌, slice_get, Option, Some, None, Result, Ok, Err, IsSomeAnd}
 use Rattle.sam_base.specs.declared.faults.Fault.{Fault}
 use Rattle.sam_base.specs.declared.faults.Fault.TheVariants.{Usage, Missing, ReadFault, Program, Schedule, TooManyBlocks, NoSuchChannel, Tensor, Stalled, WriteFault, OutOfMemory, NotBuilt}
@@ -7,7 +7,7 @@ use Rattle.sam_base.specs.declared.faults.TnsKind.{TnsKind}
 use Rattle.sam_base.specs.declared.faults.TnsKind.TheVariants.{TooManyPositions}
 use Rattle.sam_base.specs.declared.TheConstants.{FILE_MOST, POSITIONS_MOST}
 use Rattle.sam_base.specs.Causes.{Rose}
-use Rattle.sam_io.specs.Outside.{Told, bytes_of, Lacks, Tells, LongerThan}
+use Rattle.sam_io.specs.Outside.{Told, bytes_of, Lacks, Tells}
 use Rattle.sam_model.specs.declared.tensors.Tensor.{Tensor as TensorType}
 use Rattle.sam_model.specs.declared.tensors.Entries.{Entries}
 use Rattle.sam_model.specs.declared.program.Program.{Program as ProgramType}

@@ -1,12 +1,12 @@
 -- What a product of two vectors denotes is what is written of it.
-use Rattle.std.proofs.Common.{◌≡◌, ℕ, zero, suc, ◌+◌, ◌*◌, ◌%◌, ◌^◌, ◌<◌, ◌≤◌, Bool, true, false, cond, ◌&&◌, ◌||◌, List, [], ◌∷◌, length, refl, sym, ap, ◌∙◌, arith, add-zero, ltb, leb}
+use Rattle.std.proofs.Common.{◌≡◌, ℕ, zero, suc, ◌+◌, ◌*◌, ◌%◌, ◌^◌, ◌≤◌, Bool, true, false, cond, ◌&&◌, ◌||◌, List, [], ◌∷◌, length, refl, sym, ap, ◌∙◌, arith, add-zero, ltb, leb}
 use Rattle.std.specs.List.{filter, flat_map, list_all, range_with_len, zip}
 use Rattle.std.proofs.Math.Nat.{mod-mod, mul-one}
 use Rattle.std.proofs.lemmas.Bool.Decides.{nat_tests}
 use mathlib.Core.List.{map}
 use Rattle.sam_model.specs.declared.tensors.Entries.{Entries}
-use Rattle.sam_model.specs.Lists.{below, tuples, within}
-use Rattle.sam_model.specs.Tensors.{Stored, is_stored, value_at, stored_as}
+use Rattle.sam_model.specs.Lists.{within}
+use Rattle.sam_model.specs.Tensors.{value_at, stored_as}
 use Rattle.sam_model.specs.Denote.{den, pat, result_entries}
 use Rattle.sam_model.specs.ResultText.{listing_text, result_text}
 use Rattle.sam_model.specs.Listing.{InRange, listing}

@@ -1,11 +1,10 @@
 -- What the blocks of a product make of streams of one fiber, whose coordinates are those of a range that pass a test.
-use Rattle.std.proofs.Common.{◌≡◌, ℕ, zero, suc, ◌+◌, ◌*◌, ◌%◌, ◌^◌, ◌<◌, ◌≤◌, Bool, true, false, cond, ◌&&◌, List, [], ◌∷◌, length, refl, sym, ap, ◌∙◌, arith, eqb, ltb}
-use Rattle.std.specs.Prelude.{get_or}
+use Rattle.std.proofs.Common.{◌≡◌, ℕ, zero, suc, ◌+◌, ◌*◌, ◌%◌, ◌^◌, ◌<◌, Bool, true, false, cond, ◌&&◌, List, [], ◌∷◌, length, refl, ap, ◌∙◌, arith, eqb, ltb}
 use Rattle.std.specs.List.{filter, range_with_len}
 use Rattle.std.proofs.lemmas.Bool.Decides.{nat_tests}
 use mathlib.Core.List.{map}
 use Rattle.stream_tokens.specs.declared.Token.{Token}
-use Rattle.stream_tokens.specs.declared.Token.TheVariants.{Item, Empty, Stop, Done}
+use Rattle.stream_tokens.specs.declared.Token.TheVariants.{Item}
 use Rattle.block_core.specs.Change.{on_item, value_at}
 use Rattle.block_core.specs.Written.{items_in}
 use Rattle.sam_cmd.specs.Lists.{fiber_tokens, Shared, shared_with, share, products, present, pair_with}

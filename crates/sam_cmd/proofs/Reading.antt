@@ -1,5 +1,5 @@
 -- Lists that are read item by item.
-use Rattle.std.proofs.Common.{◌≡◌, ℕ, suc, ◌+◌, ◌<◌, ◌≤◌, List, [], ◌∷◌, ◌++◌, length, drop, Some, get_or, refl, sym, subst, ap, ◌∙◌, add-one, append_assoc, arith}
+use Rattle.std.proofs.Common.{◌≡◌, ℕ, suc, ◌+◌, ◌≤◌, List, [], ◌∷◌, ◌++◌, length, drop, Some, get_or, refl, sym, subst, ap, ◌∙◌, add-one, append_assoc, arith}
 use Rattle.std.specs.Prelude.{slice_get}
 use Rattle.std.proofs.Math.Seq.{drop-cons}
 use Rattle.std.proofs.Math.ListN.{drop_of_length-le}
@@ -10,10 +10,7 @@ use Rattle.stream_tokens.specs.declared.Token.{Token}
 use Rattle.stream_tokens.specs.declared.Token.TheVariants.{Item, Empty, Stop, Done}
 use Rattle.stream_tokens.specs.Flat.{written}
 use Rattle.block_core.specs.Change.{ItemsBelow}
-use Rattle.sam_cmd.specs.Lists.{Shared, nothing_shared, shared_with, merge_step, share, share_along, times, products, Pairs, keep_pair, present}
-use Rattle.sam_cmd.specs.Next.{chosen}
-use Rattle.sam_cmd.specs.declared.lists.Next.{Next}
-use Rattle.sam_cmd.specs.declared.lists.Next.TheVariants.{Both, Left, Right}
+use Rattle.sam_cmd.specs.Lists.{Shared, nothing_shared, shared_with, merge_step, share, times, products, keep_pair, present}
 
 -- the rest of a list from an item on
 pub drop-get : {A : Type 0} (xs : List A) (n : ℕ) (x : A) → slice_get xs n ≡ Some x → drop n xs ≡ x ∷ drop (n + 1) xs

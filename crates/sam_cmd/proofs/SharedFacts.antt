@@ -7,7 +7,7 @@ use Rattle.stream_tokens.specs.declared.Token.TheVariants.{Item, Empty, Stop, Do
 use Rattle.block_core.specs.Change.{ItemsBelow, on_item, value_at}
 use Rattle.sam_model.specs.Children.{Ranked}
 use Rattle.levels.specs.Reads.{fiber_at}
-use Rattle.sam_cmd.specs.Lists.{first, second, fiber_tokens, Shared, nothing_shared, shared_with, merge_step, share, share_along, times, products}
+use Rattle.sam_cmd.specs.Lists.{first, second, fiber_tokens, Shared, merge_step, share, share_along, products}
 use Rattle.sam_cmd.specs.Product.{IsVector, shared_by, value_tokens, coordinate_tokens, reference_tokens}
 
 -- what holds of all three ways to go on holds of the one that is gone

@@ -1,5 +1,5 @@
 -- A stored vector: its one fiber has the stored coordinates with their ranks, and its values stand at these ranks.
-use Rattle.std.proofs.Common.{◌≡◌, ℕ, zero, suc, ◌+◌, ◌*◌, ◌%◌, ◌^◌, ◌<◌, ◌≤◌, Bool, true, false, cond, ◌&&◌, List, [], ◌∷◌, ◌++◌, length, refl, sym, ap, ◌∙◌, subst, arith, eqb, ltb, leb}
+use Rattle.std.proofs.Common.{◌≡◌, ℕ, zero, suc, ◌+◌, ◌*◌, ◌%◌, ◌^◌, ◌<◌, ◌≤◌, Bool, true, false, cond, ◌&&◌, List, [], ◌∷◌, length, refl, ap, ◌∙◌, arith, eqb, ltb}
 use Rattle.std.specs.Prelude.{get_or}
 use Rattle.std.specs.List.{filter, flat_map, range_with_len}
 use Rattle.std.proofs.lemmas.Bool.Decides.{nat_tests}
@@ -7,8 +7,8 @@ use mathlib.Core.List.{map}
 use Rattle.stream_tokens.specs.Shapes.{Each}
 use Rattle.sam_model.specs.declared.tensors.Format.TheVariants.{Compressed}
 use Rattle.sam_model.specs.Lists.{below, smaller}
-use Rattle.sam_model.specs.Tensors.{Stored, is_stored, rank_of, stored_prefixes, value_at}
-use Rattle.sam_model.specs.Children.{Ranked, ranked}
+use Rattle.sam_model.specs.Tensors.{Stored, is_stored, rank_of, value_at}
+use Rattle.sam_model.specs.Children.{ranked}
 use Rattle.block_core.specs.Change.{value_at as value_of_rank}
 use Rattle.levels.specs.Reads.{fiber_at}
 use Rattle.block_core.specs.Written.{items_in}

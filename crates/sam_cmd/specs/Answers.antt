@@ -1,17 +1,16 @@
 -- When each answer of a command comes, and what it leaves on the sinks.
-use Rattle.std.specs.Prelude.{◌≡◌, ℕ, ◌≤◌, ◌<◌, ◌^◌, ◌⊎◌, List, [], ◌∷◌, ◌++◌, codes, length, nat_eq, cond, Option, Some, None, Result, Ok, Err, IsSomeAnd}
+use Rattle.std.specs.Prelude.{◌≡◌, ℕ, ◌≤◌, ◌<◌, ◌⊎◌, List, [], ◌∷◌, codes, length, nat_eq, cond, Option, Some, None, Result, Ok, Err, IsSomeAnd}
 use Rattle.std.specs.Cmp.Lexicographic.{pointwise}
 use Rattle.sam_base.specs.declared.faults.Fault.{Fault}
 use Rattle.sam_base.specs.declared.faults.Fault.TheVariants.{Usage, Missing, ReadFault, Program, Schedule, TooManyBlocks, NoSuchChannel, Tensor, Stalled, WriteFault, OutOfMemory, NotBuilt}
 use Rattle.sam_base.specs.declared.faults.TnsKind.{TnsKind}
 use Rattle.sam_base.specs.declared.faults.TnsKind.TheVariants.{FileTooLong, TooManyPositions}
-use Rattle.sam_base.specs.declared.TheConstants.{FILE_MOST, POSITIONS_MOST, DIMENSION_MOST}
+use Rattle.sam_base.specs.declared.TheConstants.{FILE_MOST, POSITIONS_MOST}
 use Rattle.sam_base.specs.Causes.{Rose}
 use Rattle.sam_base.specs.Texts.{status_of, text_of}
 use Rattle.sam_io.specs.Outside.{Told, bytes_of, Lacks, Tells, LongerThan, grown, GrewByPart}
 use Rattle.sam_model.specs.declared.tensors.Tensor.{Tensor as TensorType}
 use Rattle.sam_model.specs.declared.tensors.Entries.{Entries}
-use Rattle.sam_model.specs.declared.program.Program.{Program as ProgramType}
 use Rattle.sam_model.specs.Tensors.{entry_list, stored_as, stored_prefixes}
 use Rattle.sam_model.specs.ResultText.{result_text}
 use Rattle.tns_io.specs.Entries.{tns_entries}

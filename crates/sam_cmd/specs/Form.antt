@@ -1,5 +1,5 @@
 -- The one program form that `step` reads: the product of two compressed vectors.
-use Rattle.std.specs.Prelude.{◌≡◌, ◌≤◌, ℕ, Bool, true, false, ◌&&◌, cond, List, [], ◌∷◌, ◌++◌, codes, drop, take, length, nat_eq, eqb, leb, Option, Some, None, Result, Ok, Err}
+use Rattle.std.specs.Prelude.{◌≡◌, ◌≤◌, ℕ, Bool, false, ◌&&◌, cond, List, [], ◌∷◌, codes, drop, take, length, nat_eq, eqb, leb, Option, Some, None, Result, Ok, Err}
 use Rattle.std.specs.List.{prefix_len, starts_with}
 use Rattle.std.specs.Cmp.Lexicographic.{pointwise}
 use Rattle.sam_base.specs.declared.TheConstants.{DIMENSION_MOST}

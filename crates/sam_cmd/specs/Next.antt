@@ -1,5 +1,5 @@
 -- Which side goes on after two heads.
-use Rattle.std.specs.Prelude.{◌≡◌, List}
+use Rattle.std.specs.Prelude.{◌≡◌}
 use Rattle.stream_tokens.specs.declared.Token.{Token}
 use Rattle.sam_cmd.specs.declared.lists.Next.{Next}
 use Rattle.sam_cmd.specs.declared.lists.Next.TheVariants.{Both, Left, Right}

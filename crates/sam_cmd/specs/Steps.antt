@@ -2,7 +2,7 @@
 use Rattle.std.specs.Prelude.{◌≡◌, ◌⊎◌, ◌≤◌, ◌*◌, ℕ, true, List, Option, Some, None, Ok, length}
 use Rattle.std.specs.List.{list_all}
 use Rattle.sam_base.specs.declared.faults.Fault.{Fault}
-use Rattle.sam_base.specs.declared.faults.Fault.TheVariants.{Usage, Missing, ReadFault, Program, Schedule, TooManyBlocks, NoSuchChannel, Tensor, Stalled, WriteFault, OutOfMemory, NotBuilt}
+use Rattle.sam_base.specs.declared.faults.Fault.TheVariants.{Missing, ReadFault, Tensor, OutOfMemory, NotBuilt}
 use Rattle.sam_base.specs.declared.TheConstants.{FILE_MOST, DIMENSION_MOST}
 use Rattle.sam_base.specs.Causes.{Rose}
 use Rattle.sam_io.specs.Outside.{Told, Lacks, Tells, LongerThan}
@@ -13,7 +13,7 @@ use Rattle.sam_model.specs.Lists.{within}
 use Rattle.sam_model.specs.Tensors.{entry_list, stored_as}
 use Rattle.sam_model.specs.Children.{Ranked, ranked}
 use Rattle.tns_io.specs.Entries.{tns_entries}
-use Rattle.sam_cmd.specs.Form.{TwoVectors, form_of, program_of, vector_named}
+use Rattle.sam_cmd.specs.Form.{TwoVectors, form_of, program_of}
 use Rattle.sam_cmd.specs.Answers.{FilesSpan, ReadsProgram, ReadsTensor, RefusesTensor, left_tensor, right_tensor}
 
 -- a file's text, or that it is too long

@@ -1,7 +1,7 @@
 //! Worked cases, over files and sinks in memory.
 
 use crate::sam_serial;
-use sam_base::{Items, Name, Nums};
+use sam_base::{FILE_MOST, Items, Name, Nums};
 use sam_io::{MemFiles, MemSink};
 use std::alloc::{AllocError, Global};
 use std::test::Fail;
@@ -165,5 +165,32 @@ fn faults_are_told(rt: HostRuntime) -> Result<(), Fail> {
     for (n, case) in cases.iter().enumerate() {
         assert!(rt; holds(rt.alloc(), case)?, "case {n}");
     }
+    Ok(())
+}
+
+/// A tensor's file of one newline more than a file may have bytes.
+fn too_long(alloc: Global) -> Result<MemFiles, AllocError> {
+    let mut files = Items::new(alloc);
+    files.push((name(alloc, "p.sam")?, name(alloc, PRODUCT)?))?;
+    let newlines = vec![in alloc; b'\n'; FILE_MOST + 1]?;
+    files.push((name(alloc, "b.tns")?, Name::from_vec(newlines)))?;
+    Ok(MemFiles::new(files, FILE_MOST, Nums::new(alloc)))
+}
+
+#[test]
+fn a_file_may_be_too_long(rt: HostRuntime) -> Result<(), Fail> {
+    let alloc = rt.alloc();
+    let mut words = Vec::new(alloc);
+    words.push(String::from_str(alloc, "step")?)?;
+    words.push(String::from_str(alloc, "p.sam")?)?;
+    let mut files = too_long(alloc)?;
+    let mut out = sink(alloc, 0)?;
+    let mut err = sink(alloc, 0)?;
+    assert_eq!(rt;
+        sam_serial(alloc, &words, &mut files, &mut out, &mut err),
+        4
+    );
+    assert_eq!(rt; out.bytes(), b"".as_slice());
+    assert_eq!(rt; err.bytes(), b"sam: b.tns line 0: FileTooLong\n".as_slice());
     Ok(())
 }

@@ -1,5 +1,4 @@
-use Rattle.std.proofs.Common.{◌≡◌, refl, sym, ap, subst, inl, inr, ◌∙◌, map, string_bytes, Err}
-use Rattle.sam_base.specs.Texts.{status_of}
+use Rattle.std.proofs.Common.{refl, subst, map, string_bytes, Err}
 use Rattle.sam_cmd.specs.Answers.{Comes}
 use Rattle.sam_cmd.proofs.ReportLemmas.{reported, memory-status}
 use Rattle.sam_cmd.proofs.AnswerLemmas.{served-fault}

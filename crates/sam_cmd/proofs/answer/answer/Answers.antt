@@ -1,7 +1,7 @@
 use Rattle.std.proofs.Common.{◌≡◌, ◌∙◌, inl, inr, map, string_bytes, Some, sym, ap, subst, arith}
 use Rattle.sam_model.specs.Tensors.{stored_as}
 use Rattle.sam_model.specs.Children.{ranked}
-use Rattle.sam_cmd.specs.Answers.{program_named, left_tensor, right_tensor, ReadsTensor, ReadsProgram}
+use Rattle.sam_cmd.specs.Answers.{program_named, left_tensor, right_tensor, ReadsTensor}
 use Rattle.sam_cmd.proofs.AnswerLemmas.{tensor-comes, at-left, at-right}
 use Rattle.sam_cmd.proofs.answer.answer.Goals as goal
 

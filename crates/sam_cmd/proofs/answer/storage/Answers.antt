@@ -1,4 +1,4 @@
-use Rattle.std.proofs.Common.{◌≤◌, length, sym, subst, ap, Err}
+use Rattle.std.proofs.Common.{◌≤◌, subst, ap, Err}
 use Rattle.sam_cmd.proofs.AnswerLemmas.{too-many}
 use Rattle.sam_cmd.proofs.answer.storage.Goals as goal
 

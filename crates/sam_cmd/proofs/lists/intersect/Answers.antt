@@ -1,5 +1,4 @@
-use Rattle.std.proofs.Common.{arith, ap, ◌∙◌, ◌≤◌, ◌<◌, length, refl}
-use Rattle.std.proofs.lemmas.Option.{slice_get_within}
+use Rattle.std.proofs.Common.{arith, ap, ◌∙◌, ◌≤◌, length, refl}
 use Rattle.sam_cmd.proofs.Reading.{share-heads, share-left-end, share-right-end, shares-both, left-goes-on, right-goes-on, rest-end}
 use Rattle.sam_cmd.proofs.lists.intersect.Goals as goal
 

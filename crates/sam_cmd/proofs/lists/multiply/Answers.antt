@@ -1,4 +1,3 @@
-use Rattle.std.proofs.Common.{sym, subst, ◌∷◌, ◌++◌, [], ◌≡◌}
 use Rattle.sam_cmd.proofs.Reading.{rest-cons, products-head}
 use Rattle.sam_cmd.proofs.lists.multiply.Goals as goal
 

@@ -1,4 +1,4 @@
-use Rattle.std.proofs.Common.{◌≡◌, ◌∙◌, ◌∷◌, [], map, subst, sym, ap}
+use Rattle.std.proofs.Common.{◌≡◌, ◌∙◌, ◌∷◌, [], map, subst, ap}
 use Rattle.std.specs.Prelude.{IfOk}
 use Rattle.sam_model.specs.Listing.{listing}
 use Rattle.sam_model.specs.ResultText.{listing_text}
