@@ -1,5 +1,7 @@
 //! Each block alone on whole streams: the tokens that it takes, and those that it puts.
 
+mod stored;
+
 use crate::{Alu, Constant, Op, Root, combine};
 use block_core::{BlockStep, Wish};
 use std::alloc::Global;
