@@ -1,2 +1,4 @@
 pub mod LineLemmas
 pub mod PartLemmas
+pub mod DeclaredLemmas
+pub mod NameLemmas

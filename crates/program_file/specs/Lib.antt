@@ -6,3 +6,4 @@ pub mod Files
 pub mod Accesses
 pub mod Checks
 pub mod Programs
+pub mod Names

@@ -10,7 +10,7 @@ use Rattle.sam_model.specs.declared.program.Factor.{Factor}
 use Rattle.sam_model.specs.declared.program.Factor.TheVariants as model
 use Rattle.sam_model.specs.declared.program.Term.{Term}
 use Rattle.sam_model.specs.declared.program.Program.{Program}
-use Rattle.sam_model.specs.Accepted.{accepted}
+use Rattle.sam_model.specs.Accepted.{statement_fits}
 use Rattle.notation.specs.declared.statement.FactorText.{FactorText}
 use Rattle.notation.specs.declared.statement.FactorText.TheVariants.{Access, Literal}
 use Rattle.notation.specs.declared.statement.TermText.{TermText}
@@ -76,9 +76,9 @@ abbrev pub checked : File → Result Program Refusal
 checked f = after (bound_of f) (statement_checked f)
 
 -- a last look at the whole program
-abbrev pub accepted_only : Program → Result Program Refusal
-accepted_only p = if accepted p then Ok p else refuse BadLine 0
+abbrev pub fitting_only : Program → Result Program Refusal
+fitting_only p = if statement_fits p then Ok p else refuse BadLine 0
 
 -- the program that a text writes, or its first fault: the lines first, then the checks
 abbrev pub reading : List ℕ → Result Program Refusal
-reading text = after (after (file_of text) checked) accepted_only
+reading text = after (after (file_of text) checked) fitting_only

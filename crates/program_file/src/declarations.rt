@@ -11,8 +11,9 @@ ghost use Rattle.program_file.specs.Refusals.{Gives};
 
 use crate::faults::ProgramFault;
 use crate::lines::first_word;
+use crate::names::Declared;
 use sam_base::{Items, Name, Nums, ProgramKind, VARIABLES_MOST};
-use sam_model::{Format, Tensor, are_compressed, are_dimensions, is_order, is_taken};
+use sam_model::{Format, Tensor, are_compressed, are_dimensions, is_order};
 use sam_text::{NumFault, is_name, read_u64};
 use std::alloc::{AllocError, Global};
 
@@ -213,7 +214,7 @@ fn scalar_of(alloc: Global, name: &[u8]) -> Result<Option<Tensor>, AllocError>
 /// A declaration, unless it is refused: for its form, for its dimensions, or for a name that is taken.
 pub(crate) fn declared(
     alloc: Global,
-    tensors: &[Tensor],
+    tensors: &Declared,
     line: u32,
     found: Option<Tensor>,
 ) -> Result<Tensor, ProgramFault>
@@ -231,7 +232,7 @@ pub(crate) fn declared(
             line,
         });
     }
-    if is_taken(tensor.name.as_bytes(), tensors) {
+    if tensors.has(tensor.name.as_bytes()) {
         let name = Name::from_slice(alloc, tensor.name.as_bytes())?;
         return Err(ProgramFault::Refused {
             kind: ProgramKind::DuplicateName(name),

@@ -12,6 +12,7 @@ ghost use Rattle.notation.specs.Positions.{reading};
 use crate::declarations::{all_compressed, declared, result_of, tensor_of};
 use crate::faults::ProgramFault;
 use crate::lines::{Cursor, behind, first_word, kept_line};
+use crate::names::Declared;
 use notation::{NoteFault, Statement, read_statement};
 use sam_base::{FILE_MOST, Items, Name, ProgramKind};
 use sam_model::Tensor;
@@ -177,7 +178,7 @@ fn read_compute(
 
 fn read_result(
     alloc: Global,
-    tensors: &[Tensor],
+    tensors: &Declared,
     line: &[u8],
     number: u32,
 ) -> Result<Tensor, ProgramFault>
@@ -196,7 +197,7 @@ pub(crate) fn read_file(alloc: Global, text: &[u8]) -> Result<File, ProgramFault
     requires { length text.now ≤ FILE_MOST }
     ensures { Gives result (file_of text.now) }
 {
-    let mut tensors = Items::new(alloc);
+    let mut tensors = Declared::new(alloc);
     let mut from = Cursor { at: 0, number: 1 };
     loop {
         let kept = match kept_line(text, from) {
@@ -207,11 +208,13 @@ pub(crate) fn read_file(alloc: Global, text: &[u8]) -> Result<File, ProgramFault
         match behind(line, b"tensor") {
             Some(rest) => {
                 let found = tensor_of(alloc, rest)?;
-                tensors.push(declared(alloc, tensors.as_slice(), kept.number, found)?)?;
+                let tensor = declared(alloc, &tensors, kept.number, found)?;
+                tensors = tensors.with(alloc, tensor)?;
                 from = kept.rest;
             }
             None => {
-                let result_tensor = read_result(alloc, tensors.as_slice(), line, kept.number)?;
+                let result_tensor = read_result(alloc, &tensors, line, kept.number)?;
+                let tensors = tensors.into_tensors();
                 return read_compute(alloc, text, kept.rest, tensors, result_tensor);
             }
         }

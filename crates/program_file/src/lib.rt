@@ -7,6 +7,7 @@ mod declarations;
 mod faults;
 mod files;
 mod lines;
+mod names;
 mod programs;
 #[cfg(test)]
 mod tests;

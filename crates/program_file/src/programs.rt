@@ -3,7 +3,7 @@
 ghost use Rattle.std.specs.Prelude.{◌≡◌, ◌≤◌, length, true, IfOk};
 ghost use mathlib.Core.List.{map};
 ghost use Rattle.sam_model.specs.Accepted.{accepted as accepts};
-ghost use Rattle.program_file.specs.Programs.{tensor_place, number_of as number, factor_of as numbered_factor, term_of as numbered_term, size_of as first_size, program_of as numbered, order_fault as fault_of_order, loops_checked, statement_checked, bound_of as bound, checked, accepted_only, reading};
+ghost use Rattle.program_file.specs.Programs.{tensor_place, number_of as number, factor_of as numbered_factor, term_of as numbered_term, size_of as first_size, program_of as numbered, order_fault as fault_of_order, loops_checked, statement_checked, bound_of as bound, checked, reading};
 ghost use Rattle.program_file.specs.Refusals.{Gives};
 
 use crate::accesses::{Variable, bind_left, bind_terms};
@@ -14,7 +14,7 @@ use crate::faults::ProgramFault;
 use crate::files::{File, read_file};
 use notation::{FactorText, TermText};
 use sam_base::{FILE_MOST, Items, Name, Nums, ProgramKind, VARIABLES_MOST};
-use sam_model::{Factor, Program, Tensor, Term, accepted};
+use sam_model::{Factor, Program, Tensor, Term, statement_fits};
 use std::alloc::{AllocError, Global};
 
 /// The place of a tensor among the declared ones.
@@ -220,7 +220,7 @@ pub fn read_program(alloc: Global, text: &[u8]) -> Result<Program, ProgramFault>
 {
     let file = read_file(alloc, text)?;
     let program = check_file(alloc, file)?;
-    if accepted(&program) {
+    if statement_fits(&program) {
         Ok(program)
     } else {
         Err(ProgramFault::Refused {

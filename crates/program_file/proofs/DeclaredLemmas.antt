@@ -1,0 +1,212 @@
+-- What a file that is read declares fits.
+use Rattle.std.proofs.Common.{◌≡◌, ℕ, ◌+◌, ◌<◌, ◌≤◌, List, [], ◌∷◌, ◌++◌, length, Bool, true, false, not, ◌&&◌, ◌||◌, ◌==◌, cond, Option, Some, None, Result, Ok, Err, refl, sym, ap, subst, ◌∙◌, arith, ◌⊎◌, inl, inr, nat_le, nat_lt}
+use Rattle.std.specs.List.{list_all, list_any, slice_split}
+use Rattle.std.proofs.lemmas.Bool.{and_parts, and_from, or_parts, le-leb, not-true, not-false, not_from_false, or_from, both_ways, false_from_ne_true}
+use Rattle.std.proofs.lemmas.Slice.Eq.{bytes_eq-Decides}
+use Rattle.std.specs.Str.{bytes_eq}
+use Rattle.std.proofs.lemmas.List.{length-map}
+use Rattle.std.proofs.lemmas.List.Splits.{length-slice_split}
+use mathlib.Core.List.{map}
+use Rattle.sam_text.specs.Lines.{lines}
+use Rattle.sam_text.specs.Words.{words}
+use Rattle.sam_text.specs.Names.{is_name}
+use Rattle.sam_model.specs.declared.tensors.Tensor.{Tensor}
+use Rattle.sam_model.specs.Accepted.{is_operand, is_result, is_well_formed, is_dimension, is_compressed, is_taken, distinct_tensors, declarations_fit, is_order, statement_fits, accepted}
+use Rattle.notation.specs.declared.statement.Statement.{Statement}
+use Rattle.program_file.specs.declared.files.File.{File}
+use Rattle.program_file.specs.Refusals.{Refusal, refuse, after}
+use Rattle.program_file.specs.Lines.{Line, kept, starts, others, behind_word}
+use Rattle.program_file.specs.Declarations.{parts, numbers, capped, format_of, is_shape, tensor_with, scalar, tensor_of, result_of, declared, all_compressed, is_printable}
+use Rattle.program_file.specs.Files.{at_end, with_loops, loop_names, at_loops, at_statement, noted, result_declared, at_declarations, file_of, tensor_word, result_word, compute_word, starts_again}
+use Rattle.notation.specs.Positions.{reading}
+use Rattle.sam_base.specs.declared.faults.ProgramKind.{ProgramKind}
+use Rattle.sam_base.specs.declared.faults.ProgramKind.TheVariants.{TooManyVariables}
+use Rattle.sam_model.specs.declared.program.Program.{Program}
+use Rattle.program_file.specs.declared.accesses.Variable.{Variable}
+use Rattle.program_file.specs.Accesses.{unless}
+use Rattle.program_file.specs.Checks.{are_loops, terms_fault}
+use Rattle.program_file.specs.Programs.{program_of, order_fault, loops_checked, statement_checked, bound_of, checked}
+
+pub record After {Y Z : Type 0} (r : Result Y Refusal) (f : Y → Result Z Refusal) (z : Z) : Type 0 where
+  pub value : Y
+  pub was : r ≡ Ok value
+  pub next : f value ≡ Ok z
+
+pub after-ok : {Y Z : Type 0} (r : Result Y Refusal) (next : Y → Result Z Refusal) (z : Z) → after r next ≡ Ok z → After r next z
+after-ok (Ok y) next z e = record { value = y; was = refl; next = e }
+after-ok (Err r) next z e = absurd cc
+
+pub if-ok : {Y : Type 0} (b : Bool) (x y : Result Y Refusal) (z : Y) → cond b x y ≡ Ok z → ((b ≡ true) × (x ≡ Ok z)) ⊎ ((b ≡ false) × (y ≡ Ok z))
+if-ok true x y z e = inl (refl, e)
+if-ok false x y z e = inr (refl, e)
+
+no_refusal : {Y : Type 0} (x : Result Y Refusal) (r : Refusal) (z : Y) → x ≡ Err r → x ≡ Ok z → ⊥
+no_refusal (Ok y) r z h e = absurd cc
+no_refusal (Err y) r z h e = absurd cc
+
+shape-fits : (name dims formats order file : List ℕ) → is_shape dims formats order ≡ true → list_all is_dimension (numbers 120 dims) ≡ true → is_well_formed (tensor_with name dims formats order file) ≡ true
+shape-fits name dims formats order file h k =
+    let a = and_parts _ _ h in
+    let b = and_parts _ _ a.1 in
+    let c = and_parts _ _ b.1 in
+    let d = and_parts _ _ c.1 in
+    let e = and_parts _ _ d.1 in
+    let f = and_parts _ _ e.1 in
+    and_from _ _ b.0 (and_from _ _ k (and_from _ _ (ap (λ n. n == length (numbers 120 dims)) (length-map formats format_of) ∙ d.0) f.1))
+
+some-dims : (dims : List ℕ) → nat_le 1 (length (numbers 120 dims)) ≡ true
+some-dims dims =
+    let p : ℕ → Bool = λ b. b == 120 in
+    le-leb 1 (length (numbers 120 dims)) (omega (arith, length-map (parts 120 dims) capped, length-slice_split p dims))
+
+-- what a declared tensor is
+abbrev Fits : Tensor → Type 0
+Fits t = list_all is_dimension t.dims ≡ true → is_operand t ≡ true
+
+abbrev FitsResult : Tensor → Type 0
+FitsResult t = list_all is_dimension t.dims ≡ true → is_well_formed t ≡ true
+
+pick : (P : Tensor → Type 0) (b : Bool) (x t : Tensor) → (b ≡ true → P x) → cond b (Some x) None ≡ Some t → P t
+pick P true x t h e = let same : x ≡ t = cc in subst P same (h refl)
+pick P false x t h e = absurd cc
+
+tensor-fits : (ws : List (List ℕ)) (t : Tensor) → tensor_of ws ≡ Some t → Fits t
+tensor-fits (name ∷ dims ∷ formats ∷ order ∷ file ∷ []) t e =
+    pick Fits (is_name name && (list_all is_printable file && is_shape dims formats order)) (tensor_with name dims formats order file) t
+    (λ h k. and_from _ _ (some-dims dims) (shape-fits name dims formats order file (and_parts _ _ (and_parts _ _ h).1).1 k)) e
+tensor-fits _ t e = absurd cc
+
+result-fits : (ws : List (List ℕ)) (t : Tensor) → result_of ws ≡ Some t → FitsResult t
+result-fits (name ∷ []) t e = pick FitsResult (is_name name) (scalar name) t (λ h k. refl) e
+result-fits (name ∷ dims ∷ formats ∷ order ∷ []) t e =
+    pick FitsResult (is_name name && is_shape dims formats order) (tensor_with name dims formats order []) t (λ h k. shape-fits name dims formats order [] (and_parts _ _ h).1 k) e
+result-fits _ t e = absurd cc
+
+record IsDeclared (tensors : List Tensor) (o : Option Tensor) (t : Tensor) : Type 0 where
+  is : o ≡ Some t
+  dims : list_all is_dimension t.dims ≡ true
+  new : is_taken t.name tensors ≡ false
+
+declared-ok : (tensors : List Tensor) (line : ℕ) (o : Option Tensor) (t : Tensor) → declared tensors line o ≡ Ok t → IsDeclared tensors o t
+declared-ok tensors line None t e = absurd cc
+declared-ok tensors line (Some x) t e = elim (if-ok (not (list_all is_dimension x.dims)) _ _ t e) [
+  | inl h ↦ absurd (no_refusal _ _ t refl h.1)
+  | inr h ↦ elim (if-ok (is_taken x.name tensors) _ _ t h.1) [
+    | inl k ↦ absurd (no_refusal _ _ t refl k.1)
+    | inr k ↦ let same : x ≡ t = cc in record {
+      is = ap Some same;
+      dims = subst (λ (y : Tensor). list_all is_dimension y.dims ≡ true) same (not-false _ h.0);
+      new = subst (λ (y : Tensor). is_taken y.name tensors ≡ false) same k.0;
+    }
+  ]
+]
+
+compressed-ok : (line : ℕ) (x t : Tensor) → all_compressed line x ≡ Ok t → (x ≡ t) × (list_all is_compressed x.formats ≡ true)
+compressed-ok line x t e = elim (if-ok (list_all is_compressed x.formats) _ _ t e) [ inl h ↦ (cc, h.0) | inr h ↦ absurd (no_refusal _ _ t refl h.1) ]
+
+-- so many tensors that fit, with names that differ
+pub record Declared (tensors : List Tensor) : Type 0 where
+  pub each : list_all is_operand tensors ≡ true
+  pub apart : distinct_tensors tensors ≡ true
+
+all-push : (ts : List Tensor) (t : Tensor) → list_all is_operand ts ≡ true → is_operand t ≡ true → list_all is_operand (ts ++ t ∷ []) ≡ true
+all-push [] t h k = and_from _ _ k refl
+all-push (x ∷ xs) t h k = let p = and_parts _ _ h in and_from _ _ p.0 (all-push xs t p.1 k)
+
+taken-push : (name : List ℕ) (ts : List Tensor) (t : Tensor) → is_taken name ts ≡ false → bytes_eq name t.name ≡ false → is_taken name (ts ++ t ∷ []) ≡ false
+taken-push name [] t h k = or_from _ _ k refl
+taken-push name (x ∷ xs) t h k = let p = or_parts _ _ h in or_from _ _ p.0 (taken-push name xs t p.1 k)
+
+other-way : (a b : List ℕ) → bytes_eq a b ≡ false → bytes_eq b a ≡ false
+other-way a b h = false_from_ne_true (bytes_eq b a) (λ e. both_ways (bytes_eq a b) h ((bytes_eq-Decides a b).1 (sym ((bytes_eq-Decides b a).0 e))))
+
+apart-push : (ts : List Tensor) (t : Tensor) → distinct_tensors ts ≡ true → is_taken t.name ts ≡ false → distinct_tensors (ts ++ t ∷ []) ≡ true
+apart-push [] t h k = refl
+apart-push (x ∷ xs) t h k =
+    let p = and_parts _ _ h in
+    let q = or_parts _ _ k in
+    and_from _ _ (not_from_false _ (taken-push x.name xs t (not-true _ p.0) (other-way t.name x.name q.0))) (apart-push xs t p.1 q.1)
+
+push-declared : (ts : List Tensor) (t : Tensor) → Declared ts → is_operand t ≡ true → is_taken t.name ts ≡ false → Declared (ts ++ t ∷ [])
+push-declared ts t h k new = record { each = all-push ts t h.each k; apart = apart-push ts t h.apart new }
+
+-- the declarations of the file that is read
+pub record Has (f : File) (ts : List Tensor) (r : Tensor) : Type 0 where
+  pub tensors : f.tensors ≡ ts
+  pub result : f.result ≡ r
+
+end-has : (file : File) (ls : List Line) (f : File) → at_end file ls ≡ Ok f → Has f file.tensors file.result
+end-has file [] f e = let same : file ≡ f = cc in record { tensors = ap (λ (x : File). x.tensors) (sym same); result = ap (λ (x : File). x.result) (sym same) }
+end-has file (l ∷ ls) f e = elim (if-ok (starts_again (words l.text)) _ _ f e) [ inl h ↦ absurd (no_refusal _ _ f refl h.1) | inr h ↦ absurd (no_refusal _ _ f refl h.1) ]
+
+with_loops-has : (tensors : List Tensor) (result : Tensor) (s : Statement) (line : ℕ) (l : Line) (ls : List Line) (o : Option (List (List ℕ))) (f : File) → with_loops tensors result s line l ls o ≡ Ok f → Has f tensors result
+with_loops-has tensors result s line l ls None f e = absurd (no_refusal _ _ f refl e)
+with_loops-has tensors result s line l ls (Some names) f e = end-has _ ls f e
+
+loops-has : (past : ℕ) (tensors : List Tensor) (result : Tensor) (s : Statement) (line : ℕ) (ls : List Line) (f : File) → at_loops past tensors result s line ls ≡ Ok f → Has f tensors result
+loops-has past tensors result s line [] f e = absurd (no_refusal _ _ f refl e)
+loops-has past tensors result s line (l ∷ ls) f e = with_loops-has tensors result s line l ls (loop_names (words l.text)) f e
+
+statement-has : (past : ℕ) (tensors : List Tensor) (result : Tensor) (ls : List Line) (f : File) → at_statement past tensors result ls ≡ Ok f → Has f tensors result
+statement-has past tensors result [] f e = absurd (no_refusal _ _ f refl e)
+statement-has past tensors result (l ∷ ls) f e = elim (if-ok (starts compute_word (words l.text)) _ _ f e) [
+  | inl h ↦ let a = after-ok (noted l.number (reading (behind_word l.text))) (λ s. at_loops past tensors result s l.number ls) f h.1 in loops-has past tensors result a.value l.number ls f a.next
+  | inr h ↦ absurd (no_refusal _ _ f refl h.1)
+]
+
+fits-along : (f : File) (tensors : List Tensor) (result : Tensor) → Has f tensors result → declarations_fit tensors result ≡ true → declarations_fit f.tensors f.result ≡ true
+fits-along f tensors result h e = ap (λ ts. declarations_fit ts f.result) h.tensors ∙ ap (λ t. declarations_fit tensors t) h.result ∙ e
+
+option-if : (b : Bool) (o : Option Tensor) (t : Tensor) → cond b o None ≡ Some t → o ≡ Some t
+option-if true o t e = e
+option-if false o t e = absurd cc
+
+result-ok : (tensors : List Tensor) (l : Line) (t : Tensor) → Declared tensors → result_declared tensors l ≡ Ok t → declarations_fit tensors t ≡ true
+result-ok tensors l t h e =
+    let found = cond (starts result_word (words l.text)) (result_of (others (words l.text))) None in
+    let a = after-ok (declared tensors l.number found) (all_compressed l.number) t e in
+    let d = declared-ok tensors l.number found a.value a.was in
+    let c = compressed-ok l.number a.value t a.next in
+    let fits = result-fits (others (words l.text)) a.value (option-if (starts result_word (words l.text)) _ _ d.is) d.dims in
+    subst (λ (x : Tensor). declarations_fit tensors x ≡ true) c.0 (and_from _ _ h.each (and_from _ _ (and_from _ _ fits c.1) (and_from _ _ h.apart (not_from_false _ d.new))))
+
+pub declarations-fit : (past : ℕ) (tensors : List Tensor) (ls : List Line) (f : File) → Declared tensors → at_declarations past tensors ls ≡ Ok f → declarations_fit f.tensors f.result ≡ true
+declarations-fit past tensors [] f h e = absurd (no_refusal _ _ f refl e)
+declarations-fit past tensors (l ∷ ls) f h e = elim (if-ok (starts tensor_word (words l.text)) _ _ f e) [
+  | inl k ↦
+      let a = after-ok (declared tensors l.number (tensor_of (others (words l.text)))) (λ t. at_declarations past (tensors ++ t ∷ []) ls) f k.1 in
+      let d = declared-ok tensors l.number (tensor_of (others (words l.text))) a.value a.was in
+      declarations-fit past (tensors ++ a.value ∷ []) ls f (push-declared tensors a.value h (tensor-fits (others (words l.text)) a.value d.is d.dims) d.new) a.next
+  | inr k ↦
+      let a = after-ok (result_declared tensors l) (λ t. at_statement past tensors t ls) f k.1 in
+      fits-along f tensors a.value (statement-has past tensors a.value ls f a.next) (result-ok tensors l a.value h a.was)
+]
+
+pub file-fits : (text : List ℕ) (f : File) → file_of text ≡ Ok f → declarations_fit f.tensors f.result ≡ true
+file-fits text f e = declarations-fit (length (lines text) + 1) [] (kept 1 (lines text)) f (record { each = refl; apart = refl }) e
+
+unless-ok : {Y : Type 0} (line : ℕ) (o : Option ProgramKind) (x z : Y) → unless line o x ≡ Ok z → x ≡ z
+unless-ok line None x z e = cc
+unless-ok line (Some kind) x z e = absurd cc
+
+-- the program that a file writes has its declarations
+written : (f : File) (vars : List Variable) (p : Program) → loops_checked f vars ≡ Ok p → program_of f vars ≡ p
+written f vars p e = elim (if-ok (not (are_loops vars f.loops)) _ _ p e) [
+  | inl h ↦ absurd (no_refusal _ _ p refl h.1)
+  | inr h ↦ unless-ok f.loops_line (order_fault f) (program_of f vars) p h.1
+]
+
+statement-written : (f : File) (vars : List Variable) (p : Program) → statement_checked f vars ≡ Ok p → (bound : List Variable) × (program_of f bound ≡ p)
+statement-written f vars p e =
+    let a = after-ok (unless f.statement_line (terms_fault f.statement.left.vars f.statement.terms) vars) (λ bound. cond (nat_lt 8 (length bound)) (refuse TooManyVariables f.statement_line) (loops_checked f bound)) p e in
+    elim (if-ok (nat_lt 8 (length a.value)) _ _ p a.next) [
+      | inl h ↦ absurd (no_refusal _ _ p refl h.1)
+      | inr h ↦ (a.value, written f a.value p h.1)
+    ]
+
+pub accepted-from : (text : List ℕ) (f : File) (p : Program) → file_of text ≡ Ok f → checked f ≡ Ok p → statement_fits p ≡ true → accepted p ≡ true
+accepted-from text f p e h k =
+    let a = after-ok (bound_of f) (statement_checked f) p h in
+    let w = statement-written f a.value p a.next in
+    let same : declarations_fit p.tensors p.result ≡ declarations_fit f.tensors f.result = sym (ap (λ (q : Program). declarations_fit q.tensors q.result) w.1) in
+    and_from _ _ (same ∙ file-fits text f e) k
