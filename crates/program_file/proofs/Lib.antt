@@ -2,3 +2,4 @@ pub mod LineLemmas
 pub mod PartLemmas
 pub mod DeclaredLemmas
 pub mod NameLemmas
+pub mod BoundLemmas
