@@ -34,8 +34,9 @@ var n d = record { name = n; size = d }
 push-known : (n : List ℕ) (vars : List Variable) (v : Variable) → is_known n vars ≡ true → is_known n (vars ++ v ∷ []) ≡ true
 push-known n [] v e = absurd cc
 push-known n (x ∷ xs) v e = elim (or_cases (is_variable n x) (is_known n xs) e) [
-  inl h ↦ or_left _ _ h
-  | inr h ↦ or_right _ _ (push-known n xs v h) ]
+  | inl h ↦ or_left _ _ h
+  | inr h ↦ or_right _ _ (push-known n xs v h)
+]
 
 push-size-step : (t : Bool) (n : List ℕ) (x : Variable) (xs : List Variable) (v : Variable) → is_variable n x ≡ t → (t || is_known n xs) ≡ true → (is_known n xs ≡ true → size_of (xs ++ v ∷ []) n ≡ size_of xs n) → cond t x.size (size_of (xs ++ v ∷ []) n) ≡ cond t x.size (size_of xs n)
 push-size-step true n x xs v e k h = refl
@@ -60,7 +61,7 @@ joined-step : (t : Bool) (vars : List Variable) (n : List ℕ) (names : List (Li
 joined-step true vars n names d dims m k h = h vars k
 joined-step false vars n names d dims m k h = let r = h (vars ++ var n d ∷ []) (push-known m vars (var n d) k) in (r.0, r.1 ∙ push-size m vars (var n d) k)
 
-joined-keeps : (names : List (List ℕ)) (dims : List ℕ) (m : List ℕ) (vars : List Variable) → is_known m vars ≡ true → (is_known m (joined vars names dims) ≡ true) × (size_of (joined vars names dims) m ≡ size_of vars m)
+pub joined-keeps : (names : List (List ℕ)) (dims : List ℕ) (m : List ℕ) (vars : List Variable) → is_known m vars ≡ true → (is_known m (joined vars names dims) ≡ true) × (size_of (joined vars names dims) m ≡ size_of vars m)
 joined-keeps [] dims m vars k = (k, refl)
 joined-keeps (n ∷ names) [] m vars k = (k, refl)
 joined-keeps (n ∷ names) (d ∷ dims) m vars k = joined-step (is_known n vars) vars n names d dims m k (λ vs h. joined-keeps names dims m vs h)
@@ -68,8 +69,9 @@ joined-keeps (n ∷ names) (d ∷ dims) m vars k = joined-step (is_known n vars)
 known-push : (m : List ℕ) (vars : List Variable) (n : List ℕ) (d : ℕ) → is_known m (vars ++ var n d ∷ []) ≡ true → (is_known m vars ≡ true) ⊎ (bytes_eq m n ≡ true)
 known-push m [] n d e = elim (or_cases _ _ e) [ inl h ↦ inr h | inr h ↦ absurd (false≢true h) ]
 known-push m (x ∷ xs) n d e = elim (or_cases (is_variable m x) _ e) [
-  inl h ↦ inl (or_left _ _ h)
-  | inr h ↦ elim (known-push m xs n d h) [ inl a ↦ inl (or_right (is_variable m x) _ a) | inr b ↦ inr b ] ]
+  | inl h ↦ inl (or_left _ _ h)
+  | inr h ↦ elim (known-push m xs n d h) [ inl a ↦ inl (or_right (is_variable m x) _ a) | inr b ↦ inr b ]
+]
 
 -- what is known behind an access was known, or stands in it
 from-step : (t : Bool) (vars : List Variable) (n : List ℕ) (names : List (List ℕ)) (d : ℕ) (dims : List ℕ) (m : List ℕ)
@@ -77,8 +79,9 @@ from-step : (t : Bool) (vars : List Variable) (n : List ℕ) (names : List (List
     → is_known m (cond t (joined vars names dims) (joined (vars ++ var n d ∷ []) names dims)) ≡ true → (is_known m vars ≡ true) ⊎ ((bytes_eq m n || is_named m names) ≡ true)
 from-step true vars n names d dims m h k = elim (h vars k) [ inl a ↦ inl a | inr b ↦ inr (or_right (bytes_eq m n) _ b) ]
 from-step false vars n names d dims m h k = elim (h (vars ++ var n d ∷ []) k) [
-  inl a ↦ elim (known-push m vars n d a) [ inl b ↦ inl b | inr b ↦ inr (or_left _ _ b) ]
-  | inr b ↦ inr (or_right (bytes_eq m n) _ b) ]
+  | inl a ↦ elim (known-push m vars n d a) [ inl b ↦ inl b | inr b ↦ inr (or_left _ _ b) ]
+  | inr b ↦ inr (or_right (bytes_eq m n) _ b)
+]
 
 pub joined-from : (names : List (List ℕ)) (dims : List ℕ) (m : List ℕ) (vars : List Variable) → is_known m (joined vars names dims) ≡ true → (is_known m vars ≡ true) ⊎ (is_named m names ≡ true)
 joined-from [] dims m vars k = inl k
@@ -174,14 +177,16 @@ place-apart n m (x ∷ xs) h e = place-apart-step (bytes_eq n x) (bytes_eq m x) 
 pub named-in : (loops : List (List ℕ)) (v : List ℕ) (names : List (List ℕ)) → is_named v names ≡ true → is_in (place_of loops v) (places loops names) ≡ true
 named-in loops v [] e = absurd cc
 named-in loops v (n ∷ names) e = elim (or_cases (bytes_eq v n) (is_named v names) e) [
-  inl h ↦ or_left _ _ (eq-eqb _ _ (ap (λ w. place_of loops w) (same-name v n h)))
-  | inr h ↦ or_right (eqb (place_of loops v) (place_of loops n)) _ (named-in loops v names h) ]
+  | inl h ↦ or_left _ _ (eq-eqb _ _ (ap (λ w. place_of loops w) (same-name v n h)))
+  | inr h ↦ or_right (eqb (place_of loops v) (place_of loops n)) _ (named-in loops v names h)
+]
 
 in-named : (loops : List (List ℕ)) (v : List ℕ) (names : List (List ℕ)) → is_named v loops ≡ true → is_in (place_of loops v) (places loops names) ≡ true → is_named v names ≡ true
 in-named loops v [] k e = absurd cc
 in-named loops v (n ∷ names) k e = elim (or_cases (eqb (place_of loops v) (place_of loops n)) _ e) [
-  inl h ↦ or_left _ _ (name-same v n (place-apart v n loops k (eqb-true _ _ h)))
-  | inr h ↦ or_right (bytes_eq v n) _ (in-named loops v names k h) ]
+  | inl h ↦ or_left _ _ (name-same v n (place-apart v n loops k (eqb-true _ _ h)))
+  | inr h ↦ or_right (bytes_eq v n) _ (in-named loops v names k h)
+]
 
 pub distinct-places : (loops : List (List ℕ)) (names : List (List ℕ)) → list_all (λ n. is_named n loops) names ≡ true → distinct_names names ≡ true → distinct (places loops names) ≡ true
 distinct-places loops [] k e = refl
@@ -255,8 +260,9 @@ known-named [] loops e n k = absurd cc
 known-named (v ∷ vars) loops e n k =
     let p = and_parts _ _ e in
     elim (or_cases (is_variable n v) (is_known n vars) k) [
-      inl h ↦ subst (λ m. is_named m loops ≡ true) (sym (same-name n v.name h)) p.0
-      | inr h ↦ known-named vars loops p.1 n h ]
+      | inl h ↦ subst (λ m. is_named m loops ≡ true) (sym (same-name n v.name h)) p.0
+      | inr h ↦ known-named vars loops p.1 n h
+    ]
 
 count-from : (p : ℕ → Bool) (f : List ℕ → ℕ) (names : List (List ℕ)) (a : ℕ) → fold (λ s x. s + cond (p x) 1 0) a (map f names) ≡ fold (λ s x. s + cond (p (f x)) 1 0) a names
 count-from p f [] a = refl

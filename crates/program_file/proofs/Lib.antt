@@ -3,3 +3,5 @@ pub mod PartLemmas
 pub mod DeclaredLemmas
 pub mod NameLemmas
 pub mod BoundLemmas
+pub mod FitLemmas
+pub mod FileLemmas
