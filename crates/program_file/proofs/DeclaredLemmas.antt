@@ -40,7 +40,7 @@ pub if-ok : {Y : Type 0} (b : Bool) (x y : Result Y Refusal) (z : Y) → cond b 
 if-ok true x y z e = inl (refl, e)
 if-ok false x y z e = inr (refl, e)
 
-no_refusal : {Y : Type 0} (x : Result Y Refusal) (r : Refusal) (z : Y) → x ≡ Err r → x ≡ Ok z → ⊥
+pub no_refusal : {Y : Type 0} (x : Result Y Refusal) (r : Refusal) (z : Y) → x ≡ Err r → x ≡ Ok z → ⊥
 no_refusal (Ok y) r z h e = absurd cc
 no_refusal (Err y) r z h e = absurd cc
 
@@ -147,7 +147,7 @@ loops-has : (past : ℕ) (tensors : List Tensor) (result : Tensor) (s : Statemen
 loops-has past tensors result s line [] f e = absurd (no_refusal _ _ f refl e)
 loops-has past tensors result s line (l ∷ ls) f e = with_loops-has tensors result s line l ls (loop_names (words l.text)) f e
 
-statement-has : (past : ℕ) (tensors : List Tensor) (result : Tensor) (ls : List Line) (f : File) → at_statement past tensors result ls ≡ Ok f → Has f tensors result
+pub statement-has : (past : ℕ) (tensors : List Tensor) (result : Tensor) (ls : List Line) (f : File) → at_statement past tensors result ls ≡ Ok f → Has f tensors result
 statement-has past tensors result [] f e = absurd (no_refusal _ _ f refl e)
 statement-has past tensors result (l ∷ ls) f e = elim (if-ok (starts compute_word (words l.text)) _ _ f e) [
   | inl h ↦ let a = after-ok (noted l.number (reading (behind_word l.text))) (λ s. at_loops past tensors result s l.number ls) f h.1 in loops-has past tensors result a.value l.number ls f a.next
@@ -185,12 +185,12 @@ declarations-fit past tensors (l ∷ ls) f h e = elim (if-ok (starts tensor_word
 pub file-fits : (text : List ℕ) (f : File) → file_of text ≡ Ok f → declarations_fit f.tensors f.result ≡ true
 file-fits text f e = declarations-fit (length (lines text) + 1) [] (kept 1 (lines text)) f (record { each = refl; apart = refl }) e
 
-unless-ok : {Y : Type 0} (line : ℕ) (o : Option ProgramKind) (x z : Y) → unless line o x ≡ Ok z → x ≡ z
+pub unless-ok : {Y : Type 0} (line : ℕ) (o : Option ProgramKind) (x z : Y) → unless line o x ≡ Ok z → x ≡ z
 unless-ok line None x z e = cc
 unless-ok line (Some kind) x z e = absurd cc
 
 -- the program that a file writes has its declarations
-written : (f : File) (vars : List Variable) (p : Program) → loops_checked f vars ≡ Ok p → program_of f vars ≡ p
+pub written : (f : File) (vars : List Variable) (p : Program) → loops_checked f vars ≡ Ok p → program_of f vars ≡ p
 written f vars p e = elim (if-ok (not (are_loops vars f.loops)) _ _ p e) [
   | inl h ↦ absurd (no_refusal _ _ p refl h.1)
   | inr h ↦ unless-ok f.loops_line (order_fault f) (program_of f vars) p h.1
@@ -203,10 +203,3 @@ statement-written f vars p e =
       | inl h ↦ absurd (no_refusal _ _ p refl h.1)
       | inr h ↦ (a.value, written f a.value p h.1)
     ]
-
-pub accepted-from : (text : List ℕ) (f : File) (p : Program) → file_of text ≡ Ok f → checked f ≡ Ok p → statement_fits p ≡ true → accepted p ≡ true
-accepted-from text f p e h k =
-    let a = after-ok (bound_of f) (statement_checked f) p h in
-    let w = statement-written f a.value p a.next in
-    let same : declarations_fit p.tensors p.result ≡ declarations_fit f.tensors f.result = sym (ap (λ (q : Program). declarations_fit q.tensors q.result) w.1) in
-    and_from _ _ (same ∙ file-fits text f e) k

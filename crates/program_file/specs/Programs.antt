@@ -10,7 +10,6 @@ use Rattle.sam_model.specs.declared.program.Factor.{Factor}
 use Rattle.sam_model.specs.declared.program.Factor.TheVariants as model
 use Rattle.sam_model.specs.declared.program.Term.{Term}
 use Rattle.sam_model.specs.declared.program.Program.{Program}
-use Rattle.sam_model.specs.Accepted.{statement_fits}
 use Rattle.notation.specs.declared.statement.FactorText.{FactorText}
 use Rattle.notation.specs.declared.statement.FactorText.TheVariants.{Access, Literal}
 use Rattle.notation.specs.declared.statement.TermText.{TermText}
@@ -75,10 +74,6 @@ bound_of f = after (bind_left f.statement_line f.result f.statement.left) (λ va
 abbrev pub checked : File → Result Program Refusal
 checked f = after (bound_of f) (statement_checked f)
 
--- a last look at the whole program
-abbrev pub fitting_only : Program → Result Program Refusal
-fitting_only p = if statement_fits p then Ok p else refuse BadLine 0
-
 -- the program that a text writes, or its first fault: the lines first, then the checks
 abbrev pub reading : List ℕ → Result Program Refusal
-reading text = after (after (file_of text) checked) fitting_only
+reading text = after (file_of text) checked

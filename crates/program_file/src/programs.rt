@@ -14,7 +14,7 @@ use crate::faults::ProgramFault;
 use crate::files::{File, read_file};
 use notation::{FactorText, TermText};
 use sam_base::{FILE_MOST, Items, Name, Nums, ProgramKind, VARIABLES_MOST};
-use sam_model::{Factor, Program, Tensor, Term, statement_fits};
+use sam_model::{Factor, Program, Tensor, Term};
 use std::alloc::{AllocError, Global};
 
 /// The place of a tensor among the declared ones.
@@ -219,13 +219,5 @@ pub fn read_program(alloc: Global, text: &[u8]) -> Result<Program, ProgramFault>
     ensures exact { Gives result (reading text.now) }
 {
     let file = read_file(alloc, text)?;
-    let program = check_file(alloc, file)?;
-    if statement_fits(&program) {
-        Ok(program)
-    } else {
-        Err(ProgramFault::Refused {
-            kind: ProgramKind::BadLine,
-            line: 0,
-        })
-    }
+    check_file(alloc, file)
 }
