@@ -1,0 +1,4 @@
+pub mod Meaning
+pub mod Wiring
+pub mod WholeStreams
+pub mod Standing
