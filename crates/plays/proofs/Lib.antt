@@ -7,3 +7,4 @@ pub mod Passed
 pub mod Ends
 pub mod Finishing
 pub mod Count
+mod Worked
