@@ -1,8 +1,9 @@
 -- Where plays end.
 use Rattle.std.specs.Prelude.{◌≡◌, ℕ, zero, suc, ◌+◌, ◌<◌, ◌≤◌, Bool, true, false, length, Option, Some, None}
-use Rattle.std.proofs.Common.{arith, refl, sym, subst, ◌⊎◌, inl, inr}
+use Rattle.std.proofs.Common.{arith, refl, sym, ap, subst, ◌⊎◌, inl, inr}
 use Rattle.std.proofs.lemmas.Bool.{cases_eq}
-use Rattle.plays.specs.Net.{Net, Rooms, State, Wired, Stuck, Finished, Reached, Suffices, NoMore, AtMost, all_channels, sum_below, raise, can, start}
+use Rattle.std.proofs.lemmas.Option.{slice_get_past}
+use Rattle.plays.specs.Net.{Net, Rooms, State, Wired, Stuck, Finished, Reached, Suffices, NoMore, AtMost, all_channels, sum_below, raise, can_move, can, start}
 use Rattle.plays.proofs.Sums.{raise_sum, sum_at_most}
 use Rattle.plays.proofs.Always.{always-kept, start_reached, event_reached, in_net}
 use Rattle.plays.proofs.Passed.{never-passed}
@@ -10,6 +11,11 @@ use Rattle.plays.proofs.Passed.{never-passed}
 at_most_self : (o : Option ℕ) → AtMost o o
 at_most_self None = tt
 at_most_self (Some n) = omega arith
+
+-- a block that has made all its moves has no event
+pub finished_stuck : (net : Net) (rooms : Rooms) (s : State) → Finished net s → Stuck net rooms s
+finished_stuck net rooms s done = λ b l.
+    ap (can_move net rooms s b) (slice_get_past (net.moves b) (s b) (omega (arith, done b l)))
 
 pub one-end : (net : Net) (rooms : Rooms) (s t : State) → Wired net
     → Reached net rooms s → Stuck net rooms s → Reached net rooms t → Stuck net rooms t → s ≡ t
