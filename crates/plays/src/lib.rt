@@ -14,12 +14,12 @@ pub fn never_passed()
     ensures { NeverPassed }
 {}
 
-/// Two plays that end stuck end in the same state, so the order of events does not matter.
+/// Two plays that end stuck end in the same state, so where a run ends does not depend on the order of its events.
 pub fn one_end()
     ensures { OneEnd }
 {}
 
-/// Some play from the start ends stuck: events do not go on for ever.
+/// Some play from the start ends stuck, so there is an end to speak of.
 pub fn some_end()
     ensures { SomeEnd }
 {}
