@@ -40,14 +40,13 @@ pub fn no_stall()
     ensures { NoStall }
 {}
 
-/// Each event is one put on one channel or one take from one channel: a reached state has made as many moves as tokens
-/// were put and taken.
+/// Each move is one put on one channel or one take from one channel: a state has made as many moves as tokens were put and
+/// taken.
 pub fn each_counts()
     ensures { EachCounts }
 {}
 
-/// A play that finishes makes twice as many events as all streams are long together: each token is put once and taken
-/// once.
+/// A finished state has made twice as many moves as all streams are long together: each token is put once and taken once.
 pub fn twice_each()
     ensures { TwiceEach }
 {}
