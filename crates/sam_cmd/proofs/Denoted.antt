@@ -1,22 +1,25 @@
 -- What a product of two vectors denotes is what is written of it.
-use Rattle.std.proofs.Common.{◌≡◌, ℕ, zero, suc, ◌+◌, ◌*◌, ◌%◌, ◌^◌, ◌≤◌, Bool, true, false, cond, ◌&&◌, ◌||◌, List, [], ◌∷◌, length, refl, sym, ap, ◌∙◌, arith, add-zero, ltb, leb}
+use Rattle.std.proofs.Common.{◌≡◌, ℕ, zero, suc, ◌+◌, ◌*◌, ◌%◌, ◌^◌, ◌≤◌, Bool, true, false, cond, ◌&&◌, ◌||◌, List, [], ◌∷◌, length, refl, sym, ap, subst, ◌∙◌, arith, add-zero, ltb, leb}
 use Rattle.std.specs.List.{filter, flat_map, list_all, range_with_len, zip}
 use Rattle.std.proofs.Math.Nat.{mod-mod, mul-one}
 use Rattle.std.proofs.lemmas.Bool.Decides.{nat_tests}
+use Rattle.std.proofs.lemmas.List.{length-map}
 use mathlib.Core.List.{map}
+use Rattle.sam_base.specs.declared.TheConstants.{DIMENSION_MOST}
+use Rattle.sam_model.specs.declared.tensors.Tensor.{Tensor}
 use Rattle.sam_model.specs.declared.tensors.Entries.{Entries}
-use Rattle.sam_model.specs.Lists.{within}
-use Rattle.sam_model.specs.Tensors.{value_at, stored_as}
-use Rattle.sam_model.specs.Denote.{den, pat, result_entries}
+use Rattle.sam_model.specs.declared.program.Term.{Term}
+use Rattle.sam_model.specs.declared.program.Program.{Program}
+use Rattle.sam_model.specs.Lists.{within, items_at, tuples}
+use Rattle.sam_model.specs.Tensors.{value_at}
+use Rattle.sam_model.specs.Denote.{den, pat, result_entries, stored_of, tensor_at, order_at}
 use Rattle.sam_model.specs.ResultText.{listing_text, result_text}
 use Rattle.sam_model.specs.Listing.{InRange, listing}
 use Rattle.sam_model.specs.Children.{Ranked, ranked}
 use Rattle.sam_model.proofs.OneLevel.{one_level, one-level-range, one-level-listing, one_path}
-use Rattle.sam_cmd.specs.Form.{TwoVectors, program_of}
-use Rattle.sam_cmd.specs.Answers.{left_tensor, right_tensor}
-use Rattle.sam_base.specs.declared.TheConstants.{DIMENSION_MOST}
 use Rattle.sam_cmd.specs.Product.{IsVector, product_written}
-use Rattle.sam_cmd.proofs.VectorStored.{one, stored-here, shared-coordinates, product-at, product-is, is-vector}
+use Rattle.sam_cmd.proofs.VectorStored.{one, vector, stored-here, shared-coordinates, product-at, product-is, is-vector}
+use Rattle.sam_cmd.proofs.VectorPrograms.{Multiplies, product_term}
 
 -- the tests and the values of one term, without what adds nothing
 and-alone : (p q : Bool) → ((p && (q && true)) || false) || false ≡ p && q
@@ -56,10 +59,6 @@ zip-mapped : (w : ℕ → ℕ) (zs : List ℕ) → map one_path (zip zs (map w z
 zip-mapped w [] = refl
 zip-mapped w (z ∷ zs) = ap (λ l. (one z, w z) ∷ l) (zip-mapped w zs)
 
-length-mapped : (w : ℕ → ℕ) (zs : List ℕ) → length zs ≡ length (map w zs)
-length-mapped w [] = refl
-length-mapped w (z ∷ zs) = ap suc (length-mapped w zs)
-
 within-range :
     (w : ℕ → ℕ) (T : ℕ → Bool) (m a n : ℕ) → a + n ≤ m →
     list_all {X = List ℕ × ℕ} (λ entry. within (m ∷ []) entry.0) (map {B = List ℕ × ℕ} (λ c. (one c, w c)) (filter T (range_with_len a n))) ≡ true
@@ -73,54 +72,120 @@ within-range w T m a (suc n) fits = by_case (T a) (within-range w T m (a + 1) n 
     by_case true rest = let less : ltb a m ≡ true = grind (arith, nat_tests, fits) in rw less rest
     by_case false rest = rest
 
-module _ (v : TwoVectors) (l r : Entries) where
+-- a program of one term, which multiplies a and b
+abbrev product_program : List Tensor → Tensor → List (List ℕ) → ℕ → ℕ → ℕ → Program
+product_program tensors result names n a b = record {
+  tensors = tensors;
+  result = result;
+  left = 0 ∷ [];
+  terms = product_term a (0 ∷ []) b (0 ∷ []) ∷ [];
+  var_names = names;
+  var_sizes = n ∷ [];
+}
+
+program-is : (p : Program) (a b : ℕ) (h : Multiplies p a b) → p ≡ product_program p.tensors p.result p.var_names h.size a b
+program-is p a b h =
+    let made : List ℕ → List Term → List ℕ → Program = λ left terms sizes. record {
+      tensors = p.tensors;
+      result = p.result;
+      left = left;
+      terms = terms;
+      var_names = p.var_names;
+      var_sizes = sizes;
+    } in
+    ap (λ left. made left p.terms p.var_sizes) h.left
+    ∙ ap (λ terms. made (0 ∷ []) terms p.var_sizes) h.terms
+    ∙ ap (made (0 ∷ []) (product_term a (0 ∷ []) b (0 ∷ []) ∷ [])) h.sizes
+
+-- what such a program denotes, where a and b are stored as vectors of n
+module _
+    (tensors : List Tensor) (result : Tensor) (names : List (List ℕ)) (n a b : ℕ) (es : List Entries)
+    (lefts rights : List (List ℕ × ℕ))
+    (order-a : order_at tensors a ≡ 0 ∷ []) (stored-a : tensor_at (stored_of tensors es) a ≡ vector n lefts)
+    (order-b : order_at tensors b ≡ 0 ∷ []) (stored-b : tensor_at (stored_of tensors es) b ≡ vector n rights)
+    (dims : result.dims ≡ n ∷ []) (order : result.order ≡ 0 ∷ []) where
+  abbrev program : Program
+  program = product_program tensors result names n a b
+
+  -- the numbers and the tests of both factors at c
+  pattern-at : (c : ℕ) → pat program es (one c) ≡ stored-here n lefts c && stored-here n rights c
+  pattern-at c = rw (order-a, stored-a, order-b, stored-b) (and-alone (stored-here n lefts c) (stored-here n rights c))
+
+  number-at : (c : ℕ) → den program es (one c) ≡ product-at n lefts rights c
+  number-at c = rw (order-a, stored-a, order-b, stored-b) (term-alone (value_at (vector n lefts) (one c)) _)
+
+  entries-at :
+      result_entries program es
+      ≡ map {B = List ℕ × ℕ} (λ c. (one c, product-at n lefts rights c)) (shared-coordinates n lefts rights)
+  entries-at =
+      ap (λ sizes. map {B = List ℕ × ℕ} (λ x. (x, den program es x)) (filter (pat program es) (tuples sizes)))
+      (ap (λ ds. items_at ds result.order) dims ∙ ap (items_at (n ∷ [])) order)
+      ∙ entries-of-range (pat program es) (den program es) _ (product-at n lefts rights) pattern-at number-at 0 n
+
+module _ (p : Program) (a b : ℕ) (es : List Entries) (h : Multiplies p a b) (each : length es ≡ length p.tensors) where
   abbrev lefts : List (List ℕ × ℕ)
-  lefts = (stored_as (left_tensor v) l).entries
+  lefts = (h.first.stored es each).0
 
   abbrev rights : List (List ℕ × ℕ)
-  rights = (stored_as (right_tensor v) r).entries
+  rights = (h.second.stored es each).0
 
   abbrev pub zs : List ℕ
-  zs = shared-coordinates v.size lefts rights
+  zs = shared-coordinates h.size lefts rights
 
   abbrev pub numbers : ℕ → ℕ
-  numbers = product-at v.size lefts rights
+  numbers = product-at h.size lefts rights
 
-  pattern-is : (c : ℕ) → pat (program_of v) (l ∷ r ∷ []) (one c) ≡ stored-here v.size lefts c && stored-here v.size rights c
-  pattern-is c = and-alone (stored-here v.size lefts c) (stored-here v.size rights c)
-
-  number-is : (c : ℕ) → den (program_of v) (l ∷ r ∷ []) (one c) ≡ numbers c
-  number-is c = term-alone (value_at (stored_as (left_tensor v) l) (one c)) _
-
-  pub written-is : product_written (ranked (stored_as (left_tensor v) l)) (ranked (stored_as (right_tensor v) r)) ≡ one_level zs (map numbers zs)
-  written-is = product-is v.size lefts rights
+  entries-are : result_entries p es ≡ map {B = List ℕ × ℕ} (λ c. (one c, numbers c)) zs
+  entries-are =
+      ap (λ q. result_entries q es) (program-is p a b h)
+      ∙ entries-at p.tensors p.result p.var_names h.size a b es lefts rights h.first.order (h.first.stored es each).1
+      h.second.order (h.second.stored es each).1 h.dims h.order
 
   listing-is : listing (one_level zs (map numbers zs)) ≡ map {B = List ℕ × ℕ} (λ c. (one c, numbers c)) zs
-  listing-is = one-level-listing zs (map numbers zs) (length-mapped numbers zs) ∙ zip-mapped numbers zs
+  listing-is = one-level-listing zs (map numbers zs) (sym (length-map zs numbers)) ∙ zip-mapped numbers zs
 
-  entries-are : result_entries (program_of v) (l ∷ r ∷ []) ≡ map {B = List ℕ × ℕ} (λ c. (one c, numbers c)) zs
-  entries-are = entries-of-range (pat (program_of v) (l ∷ r ∷ [])) (den (program_of v) (l ∷ r ∷ [])) _ numbers pattern-is number-is 0 v.size
+  pub text-is : listing_text p.result.order (listing (one_level zs (map numbers zs))) ≡ result_text p es
+  text-is = ap (listing_text p.result.order) (listing-is ∙ sym entries-are)
 
-  pub text-is : listing_text (0 ∷ []) (listing (one_level zs (map numbers zs))) ≡ result_text (program_of v) (l ∷ r ∷ [])
-  text-is = ap (listing_text (0 ∷ [])) (listing-is ∙ sym entries-are)
+  pub in-range : InRange (length p.result.order) (one_level zs (map numbers zs))
+  in-range =
+      subst (λ order. InRange (length order) (one_level zs (map numbers zs))) (sym h.order)
+      (one-level-range zs (map numbers zs) (sym (length-map zs numbers)))
 
-  pub in-range : InRange 1 (one_level zs (map numbers zs))
-  in-range = one-level-range zs (map numbers zs) (length-mapped numbers zs)
+  sizes-are : items_at p.result.dims p.result.order ≡ h.size ∷ []
+  sizes-are = ap (λ dims. items_at dims p.result.order) h.dims ∙ ap (items_at (h.size ∷ [])) h.order
 
-  pub paths-within : list_all {X = List ℕ × ℕ} (λ entry. within (v.size ∷ []) entry.0) (listing (one_level zs (map numbers zs))) ≡ true
-  paths-within = rw listing-is (within-range numbers _ v.size 0 v.size (omega arith))
+  pub paths-within :
+      list_all {X = List ℕ × ℕ} (λ entry. within (items_at p.result.dims p.result.order) entry.0)
+      (listing (one_level zs (map numbers zs)))
+      ≡ true
+  paths-within =
+      ap (λ sizes. list_all {X = List ℕ × ℕ} (λ entry. within sizes entry.0) (listing (one_level zs (map numbers zs)))) sizes-are
+      ∙ ap (list_all {X = List ℕ × ℕ} (λ entry. within (h.size ∷ []) entry.0)) listing-is
+      ∙ within-range numbers _ h.size 0 h.size (omega arith)
 
-  pub left-vector : IsVector (ranked (stored_as (left_tensor v) l))
-  left-vector = is-vector v.size lefts
+  -- the stored tensors of both factors
+  module _
+      (left right : Ranked) (left-is : left ≡ ranked (tensor_at (stored_of p.tensors es) a))
+      (right-is : right ≡ ranked (tensor_at (stored_of p.tensors es) b)) where
+    left-ranked : left ≡ ranked (vector h.size lefts)
+    left-ranked = left-is ∙ ap ranked (h.first.stored es each).1
 
-  pub right-vector : IsVector (ranked (stored_as (right_tensor v) r))
-  right-vector = is-vector v.size rights
+    right-ranked : right ≡ ranked (vector h.size rights)
+    right-ranked = right-is ∙ ap ranked (h.second.stored es each).1
 
-  pub written-of :
-      (a b : Ranked) → a ≡ ranked (stored_as (left_tensor v) l) → b ≡ ranked (stored_as (right_tensor v) r) →
-      product_written a b ≡ one_level zs (map numbers zs)
-  written-of a b left right = rw (left, right) written-is
+    pub left-vector : IsVector left
+    left-vector = rw left-ranked (is-vector h.size lefts)
 
--- a size in range
-pub size-fits : (n : ℕ) → n ≤ DIMENSION_MOST → list_all (λ size. leb size DIMENSION_MOST) (n ∷ []) ≡ true
-size-fits n most = let fits : leb n DIMENSION_MOST ≡ true = grind (arith, nat_tests, most) in rw fits refl
+    pub right-vector : IsVector right
+    right-vector = rw right-ranked (is-vector h.size rights)
+
+    pub written-is : product_written left right ≡ one_level zs (map numbers zs)
+    written-is = rw (left-ranked, right-ranked) (product-is h.size lefts rights)
+
+-- the result's dimension is in range
+pub dims-fit : (p : Program) (a b : ℕ) → Multiplies p a b → list_all (λ size. leb size DIMENSION_MOST) p.result.dims ≡ true
+dims-fit p a b h =
+    let most = h.most in
+    let fits : leb h.size DIMENSION_MOST ≡ true = grind (arith, nat_tests, most) in
+    rw (h.dims, fits) refl

@@ -3,5 +3,10 @@ pub mod Denoted
 pub mod OneFiber
 pub mod Reading
 pub mod ReportLemmas
+pub mod ServedLemmas
 pub mod SharedFacts
+pub mod StepLemmas
+pub mod TensorLists
+pub mod VectorPrograms
 pub mod VectorStored
+mod Worked

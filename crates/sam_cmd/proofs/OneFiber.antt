@@ -1,7 +1,8 @@
 -- What the blocks of a product make of streams of one fiber, whose coordinates are those of a range that pass a test.
-use Rattle.std.proofs.Common.{◌≡◌, ℕ, zero, suc, ◌+◌, ◌*◌, ◌%◌, ◌^◌, ◌<◌, Bool, true, false, cond, ◌&&◌, List, [], ◌∷◌, length, refl, ap, ◌∙◌, arith, eqb, ltb}
+use Rattle.std.proofs.Common.{◌≡◌, ℕ, zero, suc, ◌+◌, ◌*◌, ◌%◌, ◌^◌, ◌<◌, Bool, true, false, cond, ◌&&◌, List, [], ◌∷◌, length, refl, sym, ap, ◌∙◌, arith, eqb, ltb}
 use Rattle.std.specs.List.{filter, range_with_len}
 use Rattle.std.proofs.lemmas.Bool.Decides.{nat_tests}
+use Rattle.std.proofs.lemmas.List.{length-map}
 use mathlib.Core.List.{map}
 use Rattle.stream_tokens.specs.declared.Token.{Token}
 use Rattle.stream_tokens.specs.declared.Token.TheVariants.{Item}
@@ -47,10 +48,6 @@ skip-right a r ds rs (x ∷ xs) (p ∷ ps) same above =
     let larger : ltb x a ≡ false = grind (arith, nat_tests, above.0) in
     rw (unequal, larger) refl
 
-length-mapped : (f : ℕ → ℕ) (xs : List ℕ) → length xs ≡ length (map f xs)
-length-mapped f [] = refl
-length-mapped f (x ∷ xs) = ap suc (length-mapped f xs)
-
 module _ (P Q : ℕ → Bool) (f g : ℕ → ℕ) where
   -- the coordinates that pass both tests
   abbrev pub both_pass : ℕ → ℕ → List ℕ
@@ -81,9 +78,9 @@ module _ (P Q : ℕ → Bool) (f g : ℕ → ℕ) where
           let equal : eqb a a ≡ true = grind (arith, nat_tests) in
           rw equal (ap (shared_with (Item a) (Item (f a)) (Item (g a))) same)
       by_case true false same =
-          skip-left a (f a) _ _ (filter Q (range_with_len (a + 1) n)) _ (length-mapped g _) (above-range a (a + 1) n Q (omega arith)) ∙ same
+          skip-left a (f a) _ _ (filter Q (range_with_len (a + 1) n)) _ (sym (length-map _ g)) (above-range a (a + 1) n Q (omega arith)) ∙ same
       by_case false true same =
-          skip-right a (g a) _ _ (filter P (range_with_len (a + 1) n)) _ (length-mapped f _) (above-range a (a + 1) n P (omega arith)) ∙ same
+          skip-right a (g a) _ _ (filter P (range_with_len (a + 1) n)) _ (sym (length-map _ f)) (above-range a (a + 1) n P (omega arith)) ∙ same
       by_case false false same = same
 
 -- an array over one fiber

@@ -3,7 +3,10 @@ use Rattle.std.proofs.Common.{◌≡◌, ℕ, zero, suc, ◌+◌, ◌*◌, ◌%�
 use Rattle.std.specs.Prelude.{get_or}
 use Rattle.std.specs.List.{filter, flat_map, range_with_len}
 use Rattle.std.proofs.lemmas.Bool.Decides.{nat_tests}
+use Rattle.std.proofs.lemmas.Bool.{and_parts}
+use Rattle.std.proofs.lemmas.List.{length-map, map-id}
 use mathlib.Core.List.{map}
+use Rattle.stream_tokens.proofs.Algebra.{map-map}
 use Rattle.stream_tokens.specs.Shapes.{Each}
 use Rattle.sam_model.specs.declared.tensors.Format.TheVariants.{Compressed}
 use Rattle.sam_model.specs.Lists.{below, smaller}
@@ -111,26 +114,6 @@ each-passing P h T a (suc n) fact =
     by_case true here rest = (fact a (omega arith) (omega arith) here, rest)
     by_case false here rest = rest
 
-length-mapped : {A B : Type 0} (f : A → B) (xs : List A) → length xs ≡ length (map f xs)
-length-mapped f [] = refl
-length-mapped f (x ∷ xs) = ap suc (length-mapped f xs)
-
-both-left : (p q : Bool) → p && q ≡ true → p ≡ true
-both-left true q both = refl
-both-left false q both = both
-
-both-right : (p q : Bool) → p && q ≡ true → q ≡ true
-both-right true q both = both
-both-right false q both = absurd (cc)
-
-map-map : {A B C : Type 0} (f : B → C) (g : A → B) (xs : List A) → map f (map g xs) ≡ map (λ x. f (g x)) xs
-map-map f g [] = refl
-map-map f g (x ∷ xs) = ap (λ l. f (g x) ∷ l) (map-map f g xs)
-
-map-same : (xs : List ℕ) → map (λ x. x) xs ≡ xs
-map-same [] = refl
-map-same (x ∷ xs) = ap (λ l. x ∷ l) (map-same xs)
-
 -- a compressed vector of n, with these entries
 module _ (n : ℕ) (entries : List (List ℕ × ℕ)) where
   abbrev pub vector : Stored
@@ -152,7 +135,7 @@ module _ (n : ℕ) (entries : List (List ℕ × ℕ)) where
   values-are = refl
 
   pub coordinates-are : coordinate_tokens (ranked vector) ≡ fiber_tokens coordinates
-  coordinates-are = ap fiber_tokens (map-map first (λ c. (c, rank-here c)) coordinates ∙ map-same coordinates)
+  coordinates-are = ap fiber_tokens (map-map first (λ c. (c, rank-here c)) coordinates ∙ map-id coordinates)
 
   pub references-are : reference_tokens (ranked vector) ≡ fiber_tokens (map rank-here coordinates)
   references-are = ap fiber_tokens (map-map second (λ c. (c, rank-here c)) coordinates)
@@ -168,7 +151,7 @@ module _ (n : ℕ) (entries : List (List ℕ × ℕ)) where
         each-passing (λ child. second child < length (ranked vector).values) (λ c. (c, rank-here c)) stored-here 0 n
         (λ c from to stored.
         let place = (has-place (is_stored vector) (value_at vector) 0 n c from to stored).0 in
-        omega (arith, place, length-mapped (value_at vector) (passing (is_stored vector) 0 n)));
+        omega (arith, place, length-map (passing (is_stored vector) 0 n) (value_at vector)));
   }
 
 -- the product of two vectors of one size
@@ -195,7 +178,7 @@ module _ (n : ℕ) (left right : List (List ℕ × ℕ)) where
       ∙ ap fiber_tokens
       (map-map (value_of_rank (ranked (vector n left)).values) (rank-here n left) shared-coordinates
       ∙ map-passing _ _ (λ c. stored-here n left c && stored-here n right c) 0 n
-      (λ c from to both. value-here n left c from to (both-left _ _ both)))
+      (λ c from to both. value-here n left c from to (and_parts _ _ both).0))
 
   values-right :
       value_tokens (ranked (vector n right)) (fiber_tokens (map (rank-here n right) shared-coordinates))
@@ -205,7 +188,7 @@ module _ (n : ℕ) (left right : List (List ℕ × ℕ)) where
       ∙ ap fiber_tokens
       (map-map (value_of_rank (ranked (vector n right)).values) (rank-here n right) shared-coordinates
       ∙ map-passing _ _ (λ c. stored-here n left c && stored-here n right c) 0 n
-      (λ c from to both. value-here n right c from to (both-right _ _ both)))
+      (λ c from to both. value-here n right c from to (and_parts _ _ both).1))
 
   kept-is :
       kept_by (ranked (vector n left)) (ranked (vector n right))

@@ -1,20 +1,27 @@
 -- When each answer of a command comes, and what it leaves on the sinks.
-use Rattle.std.specs.Prelude.{◌≡◌, ℕ, ◌≤◌, ◌<◌, ◌⊎◌, List, [], ◌∷◌, codes, length, nat_eq, cond, Option, Some, None, Result, Ok, Err, IsSomeAnd}
-use Rattle.std.specs.Cmp.Lexicographic.{pointwise}
+use Rattle.std.specs.Prelude.{◌≡◌, ℕ, ◌≤◌, ◌<◌, ◌⊎◌, true, List, [], ◌∷◌, ◌++◌, codes, length, Option, Some, None, Result, Ok, Err}
 use Rattle.sam_base.specs.declared.faults.Fault.{Fault}
 use Rattle.sam_base.specs.declared.faults.Fault.TheVariants.{Usage, Missing, ReadFault, Program, Schedule, TooManyBlocks, NoSuchChannel, Tensor, Stalled, WriteFault, OutOfMemory, NotBuilt}
+use Rattle.sam_base.specs.declared.faults.ProgramKind.{ProgramKind}
+use Rattle.sam_base.specs.declared.faults.ProgramKind.TheVariants as of_program
 use Rattle.sam_base.specs.declared.faults.TnsKind.{TnsKind}
-use Rattle.sam_base.specs.declared.faults.TnsKind.TheVariants.{FileTooLong, TooManyPositions}
+use Rattle.sam_base.specs.declared.faults.TnsKind.TheVariants as of_tensor
 use Rattle.sam_base.specs.declared.TheConstants.{FILE_MOST, POSITIONS_MOST}
 use Rattle.sam_base.specs.Causes.{Rose}
 use Rattle.sam_base.specs.Texts.{status_of, text_of}
-use Rattle.sam_io.specs.Outside.{Told, bytes_of, Lacks, Tells, LongerThan, grown, GrewByPart}
+use Rattle.sam_io.specs.Outside.{Told, Lacks, Tells, LongerThan, grown, GrewByPart}
 use Rattle.sam_model.specs.declared.tensors.Tensor.{Tensor as TensorType}
 use Rattle.sam_model.specs.declared.tensors.Entries.{Entries}
+use Rattle.sam_model.specs.declared.program.Program.{Program as ProgramType}
+use Rattle.sam_model.specs.Accepted.{accepted}
 use Rattle.sam_model.specs.Tensors.{entry_list, stored_as, stored_prefixes}
 use Rattle.sam_model.specs.ResultText.{result_text}
 use Rattle.tns_io.specs.Entries.{tns_entries}
-use Rattle.sam_cmd.specs.Form.{TwoVectors, form_of, program_of, vector_named}
+use Rattle.program_file.specs.Programs.{reading}
+use Rattle.sam_cmd.specs.declared.command.Command.{Command}
+use Rattle.sam_cmd.specs.declared.command.Command.TheVariants.{Check, Step}
+use Rattle.sam_cmd.specs.Commands.{command_of, file_of}
+use Rattle.sam_cmd.specs.VectorProducts.{vector_product}
 
 -- the files during one call
 pub record FilesSpan : Type 0 where
@@ -33,88 +40,114 @@ pub record SinkSpan : Type 0 where
 
 -- ---- the steps of a command, in their order
 
--- the program file that the words name
-abbrev pub program_named : List (List ℕ) → Option (List ℕ)
-program_named [] = None
-program_named (command ∷ []) = None
-program_named (command ∷ name ∷ []) = cond (pointwise nat_eq command (codes "step")) (Some name) None
-program_named (command ∷ name ∷ other ∷ more) = None
-
--- the program file is told, and is of the form, with these vectors
-pub record ReadsProgram (told : Option Told) (name : List ℕ) (v : TwoVectors) : Type 0 where
-  pub bytes : List ℕ
+-- the bytes of a file, which are no more than a file may have
+pub record ReadsFile (told : Option Told) (name bytes : List ℕ) : Type 0 where
   pub told_bytes : Tells told name bytes
-  pub is_form : form_of bytes ≡ Some v
+  pub short : length bytes ≤ FILE_MOST
 
-abbrev pub left_tensor : TwoVectors → TensorType
-left_tensor v = vector_named (codes "b") v.size v.left
+-- the program that a program file spells
+pub record ReadsProgram (told : Option Told) (name : List ℕ) (p : ProgramType) : Type 0 where
+  pub bytes : List ℕ
+  pub file : ReadsFile told name bytes
+  pub is_program : reading bytes ≡ Ok p
 
-abbrev pub right_tensor : TwoVectors → TensorType
-right_tensor v = vector_named (codes "c") v.size v.right
-
--- a tensor's file is told and has these entries, and no more prefixes of one length are stored than may be
+-- a tensor's file has these entries, and no more prefixes of one length are stored than may be
 pub record ReadsTensor (told : Option Told) (t : TensorType) (e : Entries) : Type 0 where
   pub bytes : List ℕ
-  pub told_bytes : Tells told t.file bytes
+  pub file : ReadsFile told t.file bytes
   pub arity : e.arity ≡ length t.dims
   pub entries : tns_entries t.dims bytes ≡ Ok (entry_list e.arity e.coords e.values)
   pub few : (k : ℕ) → k ≤ length t.dims → length (stored_prefixes (stored_as t e) k) ≤ POSITIONS_MOST
 
--- the command comes to a tensor: every earlier step was passed
+-- the entries of each tensor
+abbrev pub ReadsTensors : Option Told → List TensorType → List Entries → Type 0
+ReadsTensors told [] [] = Unit {0}
+ReadsTensors told [] (e ∷ es) = ⊥
+ReadsTensors told (t ∷ ts) [] = ⊥
+ReadsTensors told (t ∷ ts) (e ∷ es) = ReadsTensor told t e × ReadsTensors told ts es
+
+-- the command comes to a tensor: it is `step` on a product of vectors, and each tensor declared before was read
 pub record ComesTo (words : List (List ℕ)) (told : Option Told) (t : TensorType) : Type 0 where
   pub name : List ℕ
-  pub vectors : TwoVectors
-  pub words_name : program_named words ≡ Some name
-  pub program : ReadsProgram told name vectors
-  pub which : (t ≡ left_tensor vectors) ⊎ ((t ≡ right_tensor vectors) × ((e : Entries) × ReadsTensor told (left_tensor vectors) e))
+  pub program : ProgramType
+  pub factors : ℕ × ℕ
+  pub before : List TensorType
+  pub after : List TensorType
+  pub entries : List Entries
+  pub is_command : command_of words ≡ Some (Step name)
+  pub program_read : ReadsProgram told name program
+  pub is_product : vector_product program ≡ Some factors
+  pub place : program.tensors ≡ before ++ t ∷ after
+  pub before_read : ReadsTensors told before entries
 
 -- the command comes to a file: the program's, or that of a tensor
 abbrev pub Opens : List (List ℕ) → Option Told → List ℕ → Type 0
-Opens words told name = (program_named words ≡ Some name) ⊎ ((t : TensorType) × (name ≡ t.file) × ComesTo words told t)
+Opens words told name =
+    ((command : Command) × (command_of words ≡ Some command) × (name ≡ file_of command))
+    ⊎ ((t : TensorType) × (name ≡ t.file) × ComesTo words told t)
 
 -- ---- the causes
 
--- the words or the program file aren't of the form
-abbrev pub IsNotBuilt : List (List ℕ) → Option Told → Type 0
-IsNotBuilt words told =
-    (program_named words ≡ None)
-    ⊎ ((name : List ℕ) × (program_named words ≡ Some name)
-    × (((bytes : List ℕ) × Tells told name bytes × (form_of bytes ≡ None)) ⊎ LongerThan told name FILE_MOST))
+-- the program file is refused, for this reason at this line
+abbrev pub RefusesProgram : Option Told → List ℕ → ProgramKind → ℕ → Type 0
+RefusesProgram told name kind line =
+    ((bytes : List ℕ) × ReadsFile told name bytes × (reading bytes ≡ Err (record { kind = kind; line = line })))
+    ⊎ ((kind ≡ of_program.FileTooLong) × (line ≡ 0) × LongerThan told name FILE_MOST)
+
+-- `step` isn't built for the program, which is accepted and no product of two vectors
+pub record IsNotBuilt (words : List (List ℕ)) (told : Option Told) : Type 0 where
+  pub name : List ℕ
+  pub program : ProgramType
+  pub is_command : command_of words ≡ Some (Step name)
+  pub program_read : ReadsProgram told name program
+  pub is_accepted : accepted program ≡ true
+  pub no_product : vector_product program ≡ None
 
 -- a tensor's file is refused, for this reason at this line
 abbrev pub RefusesTensor : Option Told → TensorType → TnsKind → ℕ → Type 0
 RefusesTensor told t kind line =
-    ((bytes : List ℕ) × Tells told t.file bytes × (tns_entries t.dims bytes ≡ Err (kind, line)))
-    ⊎ ((kind ≡ FileTooLong) × (line ≡ 0) × LongerThan told t.file FILE_MOST)
-    ⊎ ((kind ≡ TooManyPositions) × (line ≡ 0)
-    × ((bytes : List ℕ) × (e : Entries) × Tells told t.file bytes × (e.arity ≡ length t.dims)
+    ((bytes : List ℕ) × ReadsFile told t.file bytes × (tns_entries t.dims bytes ≡ Err (kind, line)))
+    ⊎ ((kind ≡ of_tensor.FileTooLong) × (line ≡ 0) × LongerThan told t.file FILE_MOST)
+    ⊎ ((kind ≡ of_tensor.TooManyPositions) × (line ≡ 0)
+    × ((bytes : List ℕ) × (e : Entries) × ReadsFile told t.file bytes × (e.arity ≡ length t.dims)
     × (tns_entries t.dims bytes ≡ Ok (entry_list e.arity e.coords e.values))
     × ((k : ℕ) × (k ≤ length t.dims) × (POSITIONS_MOST < length (stored_prefixes (stored_as t e) k)))))
 
--- a result: what it was made of
+-- `check` of an accepted program
+pub record Accepts (words : List (List ℕ)) (told : Option Told) (text : List ℕ) : Type 0 where
+  pub name : List ℕ
+  pub program : ProgramType
+  pub is_command : command_of words ≡ Some (Check name)
+  pub program_read : ReadsProgram told name program
+  pub is_accepted : accepted program ≡ true
+  pub is_text : text ≡ codes "accepted\n"
+
+-- `step` of a product of vectors: what the result was made of
 pub record Computes (words : List (List ℕ)) (told : Option Told) (text : List ℕ) : Type 0 where
   pub name : List ℕ
-  pub vectors : TwoVectors
-  pub left : Entries
-  pub right : Entries
-  pub words_name : program_named words ≡ Some name
-  pub program : ReadsProgram told name vectors
-  pub left_read : ReadsTensor told (left_tensor vectors) left
-  pub right_read : ReadsTensor told (right_tensor vectors) right
-  pub is_text : text ≡ result_text (program_of vectors) (left ∷ right ∷ [])
+  pub program : ProgramType
+  pub factors : ℕ × ℕ
+  pub entries : List Entries
+  pub is_command : command_of words ≡ Some (Step name)
+  pub program_read : ReadsProgram told name program
+  pub is_accepted : accepted program ≡ true
+  pub is_product : vector_product program ≡ Some factors
+  pub tensors_read : ReadsTensors told program.tensors entries
+  pub is_text : text ≡ result_text program entries
 
 -- when each answer comes
 abbrev pub Comes : List (List ℕ) → FilesSpan → Result (List ℕ) Fault → Type 0
-Comes words files (Ok text) = Computes words files.told text
+Comes words files (Ok text) = Accepts words files.told text ⊎ Computes words files.told text
+Comes words files (Err Usage) = command_of words ≡ None
 Comes words files (Err (Missing name)) =
     Opens words files.told name × Rose files.misses_before files.misses_now × Lacks files.told name
 Comes words files (Err (ReadFault name)) = Opens words files.told name × Rose files.faults_before files.faults_now
+Comes words files (Err (Program kind line)) =
+    (command : Command) × (command_of words ≡ Some command) × RefusesProgram files.told (file_of command) kind line
+Comes words files (Err NotBuilt) = IsNotBuilt words files.told
 Comes words files (Err (Tensor name kind line)) =
     (t : TensorType) × (name ≡ t.file) × ComesTo words files.told t × RefusesTensor files.told t kind line
-Comes words files (Err NotBuilt) = IsNotBuilt words files.told
 Comes words files (Err OutOfMemory) = Unit {0}
-Comes words files (Err Usage) = ⊥
-Comes words files (Err (Program kind line)) = ⊥
 Comes words files (Err (Schedule line)) = ⊥
 Comes words files (Err (TooManyBlocks blocks)) = ⊥
 Comes words files (Err (NoSuchChannel channel)) = ⊥
@@ -154,26 +187,24 @@ pub record Answered (words : List (List ℕ)) (files : FilesSpan) (out err : Sin
   pub comes : Comes words files answer
   pub leaves : Leaves answer out err status
 
--- all files are told, and are of the forms
-pub record IsServed (words : List (List ℕ)) (m : Told) : Type 0 where
-  pub name : List ℕ
-  pub bytes : List ℕ
-  pub vectors : TwoVectors
-  pub left : Entries
-  pub right : Entries
-  pub words_name : program_named words ≡ Some name
-  pub told_bytes : bytes_of m name ≡ Some bytes
-  pub short : length bytes ≤ FILE_MOST
-  pub is_form : form_of bytes ≡ Some vectors
-  pub left_short : IsSomeAnd (bytes_of m vectors.left) (λ text. length text ≤ FILE_MOST)
-  pub right_short : IsSomeAnd (bytes_of m vectors.right) (λ text. length text ≤ FILE_MOST)
-  pub left_read : ReadsTensor (Some m) (left_tensor vectors) left
-  pub right_read : ReadsTensor (Some m) (right_tensor vectors) right
+-- `step` has all that it opens: a product of vectors, and each tensor that is declared
+pub record HasAll (m : Told) (name : List ℕ) : Type 0 where
+  pub program : ProgramType
+  pub factors : ℕ × ℕ
+  pub entries : List Entries
+  pub program_read : ReadsProgram (Some m) name program
+  pub is_product : vector_product program ≡ Some factors
+  pub tensors_read : ReadsTensors (Some m) program.tensors entries
+
+-- all files that a command opens are told, and are accepted
+abbrev pub IsServed : Command → Told → Type 0
+IsServed (Check name) m = (p : ProgramType) × ReadsProgram (Some m) name p
+IsServed (Step name) m = HasAll m name
 
 -- where all is served and no count rises, the text is written or there was no memory
 abbrev pub Complete : List (List ℕ) → FilesSpan → SinkSpan → ℕ → Type 0
 Complete words files out status =
-    (m : Told) → files.told ≡ Some m → IsServed words m →
+    (m : Told) (command : Command) → files.told ≡ Some m → command_of words ≡ Some command → IsServed command m →
     ¬ Rose files.faults_before files.faults_now → ¬ Rose out.faults_before out.faults_now →
     (status ≡ 0) ⊎ (status ≡ 9)
 

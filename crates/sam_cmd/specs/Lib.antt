@@ -1,6 +1,7 @@
 pub mod Answers
-pub mod Form
+pub mod Commands
 pub mod Lists
 pub mod Next
 pub mod Product
 pub mod Steps
+pub mod VectorProducts

@@ -1,30 +1,22 @@
 //! What a command answers: its text, or why there is none.
 
-ghost use Rattle.std.specs.Prelude.{◌≡◌, ◌≤◌, ◌⊎◌, ℕ, length, map, string_bytes, true, Some, None, IfOk, IfErr, IfNone, IfSome};
-ghost use Rattle.sam_model.specs.Accepted.{is_well_formed};
-ghost use Rattle.sam_cmd.specs.Answers.{program_named as named, Comes};
-ghost use Rattle.sam_cmd.specs.Steps.{GivesText, FileFault, GivesProgram, ProgramFault, GivesEntries, GivesStorage, TensorFault};
+ghost use Rattle.std.specs.Prelude.{◌≡◌, ◌≤◌, ◌⊎◌, ℕ, List, length, map, string_bytes, true, Some, IfOk, IfErr};
+ghost use Rattle.sam_model.specs.Accepted.{is_well_formed, is_operand};
+ghost use Rattle.std.specs.List.{list_all};
+ghost use Rattle.sam_cmd.specs.Commands.{command_of as command_in};
+ghost use Rattle.sam_cmd.specs.Answers.{Comes};
+ghost use Rattle.sam_cmd.specs.Steps.{GivesText, FileFault, GivesProgram, ProgramFault as IsProgramFault, GivesEntries, GivesStorage, TensorFault, GivesStorages, TensorsFault};
 
-use crate::form::read_form;
+use crate::command::{Command, command_of};
 use crate::product::product_text;
+use crate::vectors::vector_product;
 use levels::{BuildFault, Storage};
-use sam_base::{Fault, Name, TnsKind, VARIABLES_MOST};
+use program_file::{ProgramFault, read_program};
+use sam_base::{Fault, Items, Name, ProgramKind, TnsKind, VARIABLES_MOST};
 use sam_io::{Files, ReadEnd, read_whole};
 use sam_model::{Entries, Program, Tensor};
 use std::alloc::Global;
 use tns_io::{TnsFault, read_tns};
-
-/// The program file that the words name.
-fn program_named(words: &[String]) -> Option<&String>
-    ensures none { IfNone result (named (map string_bytes words.now) ≡ None) }
-    ensures some { IfSome result (λ name. named (map string_bytes words.now) ≡ Some (string_bytes name.now)) }
-{
-    if words.len() == 2 && words[0].as_bytes() == b"step".as_slice() {
-        Some(&words[1])
-    } else {
-        None
-    }
-}
 
 fn missing(alloc: Global, name: &Name) -> Fault
     ensures { (result ≡ Fault.Missing name.now) ⊎ (result ≡ Fault.OutOfMemory) }
@@ -86,7 +78,7 @@ fn program<F: Files>(alloc: Global, files: &mut F, name: &Name) -> Result<Progra
     ensures misses { F.misses files.old ≤ F.misses files.new }
     ensures ok { IfOk result (GivesProgram (F.told files.old) name.now) }
     ensures err { IfErr result
-        (ProgramFault
+        (IsProgramFault
         (record {
           told = F.told files.old;
           faults_before = F.faults files.old;
@@ -96,13 +88,16 @@ fn program<F: Files>(alloc: Global, files: &mut F, name: &Name) -> Result<Progra
         })
         name.now) }
 {
-    match text(alloc, files, name)? {
-        None => Err(Fault::NotBuilt),
-        Some(text) => match read_form(alloc, text.as_bytes()) {
-            Ok(Some(program)) => Ok(program),
-            Ok(None) => Err(Fault::NotBuilt),
-            Err(_) => Err(Fault::OutOfMemory),
-        },
+    let Some(text) = text(alloc, files, name)? else {
+        return Err(Fault::Program {
+            kind: ProgramKind::FileTooLong,
+            line: 0,
+        });
+    };
+    match read_program(alloc, text.as_bytes()) {
+        Ok(program) => Ok(program),
+        Err(ProgramFault::Refused { kind, line }) => Err(Fault::Program { kind, line }),
+        Err(ProgramFault::OutOfMemory) => Err(Fault::OutOfMemory),
     }
 }
 
@@ -167,6 +162,88 @@ fn storage<F: Files>(alloc: Global, files: &mut F, t: &Tensor) -> Result<Storage
     }
 }
 
+/// Reads the files of all tensors in their order, and stores each.
+fn storages<F: Files>(
+    alloc: Global,
+    files: &mut F,
+    tensors: &[Tensor],
+) -> Result<Items<Storage>, Fault>
+    requires { list_all is_operand tensors.now ≡ true }
+    ensures ok { IfOk result (GivesStorages (F.told files.old) tensors.now) }
+    ensures err { IfErr result
+        (TensorsFault
+        (record {
+          told = F.told files.old;
+          faults_before = F.faults files.old;
+          faults_now = F.faults files.new;
+          misses_before = F.misses files.old;
+          misses_now = F.misses files.new;
+        })
+        tensors.now) }
+{
+    let mut storages = Items::new(alloc);
+    for tensor in tensors {
+        match storage(alloc, files, tensor) {
+            Err(fault) => return Err(fault),
+            Ok(storage) => match storages.push(storage) {
+                Err(_) => return Err(Fault::OutOfMemory),
+                Ok(()) => {}
+            },
+        }
+    }
+    Ok(storages)
+}
+
+/// What `check` answers.
+fn check<F: Files>(alloc: Global, files: &mut F, name: &Name) -> Result<Name, Fault>
+    ensures { (words : List (List ℕ)) → command_in words ≡ Some (Command.Check name.now) → Comes words
+        (record {
+          told = F.told files.old;
+          faults_before = F.faults files.old;
+          faults_now = F.faults files.new;
+          misses_before = F.misses files.old;
+          misses_now = F.misses files.new;
+        })
+        result }
+{
+    match program(alloc, files, name) {
+        Err(fault) => Err(fault),
+        Ok(_) => match Name::from_slice(alloc, b"accepted\n") {
+            Ok(text) => Ok(text),
+            Err(_) => Err(Fault::OutOfMemory),
+        },
+    }
+}
+
+/// What `step` answers.
+fn step<F: Files>(alloc: Global, files: &mut F, name: &Name) -> Result<Name, Fault>
+    ensures { (words : List (List ℕ)) → command_in words ≡ Some (Command.Step name.now) → Comes words
+        (record {
+          told = F.told files.old;
+          faults_before = F.faults files.old;
+          faults_now = F.faults files.new;
+          misses_before = F.misses files.old;
+          misses_now = F.misses files.new;
+        })
+        result }
+{
+    let program = match program(alloc, files, name) {
+        Ok(program) => program,
+        Err(fault) => return Err(fault),
+    };
+    let Some((left, right)) = vector_product(&program) else {
+        return Err(Fault::NotBuilt);
+    };
+    let storages = match storages(alloc, files, program.tensors.as_slice()) {
+        Ok(storages) => storages,
+        Err(fault) => return Err(fault),
+    };
+    match product_text(alloc, &program, storages.get(left), storages.get(right)) {
+        Ok(text) => Ok(text),
+        Err(_) => Err(Fault::OutOfMemory),
+    }
+}
+
 /// What a command answers: the text that it writes, or why there is none.
 pub fn answer<F: Files>(alloc: Global, words: &[String], files: &mut F) -> Result<Name, Fault>
     ensures { Comes (map string_bytes words.now)
@@ -179,23 +256,9 @@ pub fn answer<F: Files>(alloc: Global, words: &[String], files: &mut F) -> Resul
         })
         result }
 {
-    let Some(word) = program_named(words) else {
-        return Err(Fault::NotBuilt);
-    };
-    let Ok(name) = Name::from_slice(alloc, word.as_bytes()) else {
-        return Err(Fault::OutOfMemory);
-    };
-    let program = program(alloc, files, &name)?;
-    let left = match storage(alloc, files, program.tensors.get(0)) {
-        Ok(left) => left,
-        Err(fault) => return Err(fault),
-    };
-    let right = match storage(alloc, files, program.tensors.get(1)) {
-        Ok(right) => right,
-        Err(fault) => return Err(fault),
-    };
-    match product_text(alloc, &program, &left, &right) {
-        Ok(text) => Ok(text),
-        Err(_) => Err(Fault::OutOfMemory),
+    match command_of(alloc, words) {
+        Err(fault) => Err(fault),
+        Ok(Command::Check(name)) => check(alloc, files, &name),
+        Ok(Command::Step(name)) => step(alloc, files, &name),
     }
 }

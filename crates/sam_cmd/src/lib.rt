@@ -8,12 +8,13 @@ ghost use Rattle.std.specs.Prelude.{◌≡◌, ◌≢◌, map, string_bytes};
 ghost use Rattle.sam_cmd.specs.Answers.{Answered, Complete};
 
 mod answer;
-mod form;
+mod command;
 mod lists;
 mod product;
 mod report;
 #[cfg(test)]
 mod tests;
+mod vectors;
 
 use answer::answer;
 use report::{report, say};
@@ -22,9 +23,10 @@ use std::alloc::Global;
 
 /// Runs a command, and answers its exit status.
 ///
-/// `step FILE` reads a program file and the files of its tensors, and writes the tensor that the statement denotes: the
-/// sum of products over all index tuples, modulo 2^64, at the coordinates of its pattern. Today it serves the product of
-/// two compressed vectors; the contract says which other answers there are and when each comes.
+/// `check FILE` reads a program file, and writes `accepted` and a newline. `step FILE` reads a program file and the files of
+/// all its tensors, and writes the tensor that the statement denotes: the sum of products over all index tuples, modulo
+/// 2^64, at the coordinates of its pattern. Today it serves the product of two compressed vectors; the contract says which
+/// other answers there are and when each comes.
 pub fn sam_serial<F: Files, O: Sink, E: Sink>(
     alloc: Global,
     words: &[String],

@@ -1,6 +1,6 @@
 //! The product of two vectors, run along its graph.
 
-ghost use Rattle.std.specs.Prelude.{◌≡◌, ◌<◌, ◌∷◌, [], length, IfOk};
+ghost use Rattle.std.specs.Prelude.{◌≡◌, ◌<◌, List, length, IfOk};
 ghost use Rattle.block_core.specs.Change.{ItemsBelow};
 ghost use Rattle.block_core.specs.Written.{items_in};
 ghost use Rattle.levels.specs.Reads.{children_at};
@@ -8,11 +8,7 @@ ghost use Rattle.sam_cmd.specs.Lists.{products as products_of};
 ghost use Rattle.sam_cmd.specs.Product.{IsVector, product_written, shared_by, value_tokens};
 ghost use Rattle.sam_model.proofs.OneLevel.{one_level};
 ghost use Rattle.sam_model.specs.declared.tensors.Entries.{Entries};
-ghost use Rattle.sam_model.specs.Tensors.{stored_as};
-ghost use Rattle.sam_model.specs.Children.{ranked};
 ghost use Rattle.sam_model.specs.ResultText.{result_text as denoted_text};
-ghost use Rattle.sam_cmd.specs.Form.{TwoVectors, program_of};
-ghost use Rattle.sam_cmd.specs.Answers.{left_tensor, right_tensor};
 ghost use Rattle.sam_cmd.specs.Steps.{IsProductOf};
 
 use crate::lists::{Met, Side, array, copy, drop_absent, intersect, multiply, root, scan};
@@ -23,23 +19,22 @@ use std::alloc::{AllocError, Global};
 use stream_tokens::{Stream, Token};
 use tns_io::result_text;
 
-/// The text of the product of two stored vectors.
+/// The text of the product of two stored vectors, which are tensors of the program.
 pub fn product_text(
     alloc: Global,
     p: &Program,
     left: &Storage,
     right: &Storage,
 ) -> Result<Name, AllocError>
-    requires { IsProductOf p.now left.now right.now }
-    ensures { (v : TwoVectors) (l r : Entries) → p.now ≡ program_of v → left.now ≡ ranked (stored_as (left_tensor v) l) →
-        right.now ≡ ranked (stored_as (right_tensor v) r) →
-        IfOk result (λ text. text ≡ denoted_text (program_of v) (l ∷ r ∷ [])) }
+    requires { (entries : List Entries) × IsProductOf p.now entries left.now right.now }
+    ensures { (entries : List Entries) → IsProductOf p.now entries left.now right.now →
+        IfOk result (λ text. text ≡ denoted_text p.now entries) }
 {
     let written = product(alloc, left, right)?;
     result_text(alloc, &p.result, &written)
 }
 
-/// What is written of `x(i) = b(i) * c(i)`: the root leads to a scanner of each vector, these to an intersecter, this to
+/// What is written of the product of two vectors: the root leads to a scanner of each vector, these to an intersecter, this to
 /// an array of each vector, these to a multiplier, and this to a dropper and the writers.
 fn product(alloc: Global, left: &Storage, right: &Storage) -> Result<Written, AllocError>
     requires left { IsVector left.now }

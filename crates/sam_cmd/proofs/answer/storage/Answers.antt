@@ -6,5 +6,5 @@ pub returns-in-Err-TooManyPositions-clause-err : goal.returns-in-Err-TooManyPosi
 returns-in-Err-TooManyPositions-clause-err g c =
     let e = c.in_ok-entries.ensures.ok in
     let many = c.in-Err-TooManyPositions.ensures.many (ap Err c.in-Err-TooManyPositions.field-0-is) in
-    too-many _ c.args.t.now c.in_ok-entries.entries _ e.bytes e.told_bytes e.arity e.entries
+    too-many _ c.args.t.now c.in_ok-entries.entries _ e.bytes e.file e.arity e.entries
     (many.0, subst (λ n. many.0 ≤ n) c.requires.levels many.1, many.2) c.refused.ensures
