@@ -2,3 +2,4 @@ pub mod Meaning
 pub mod Wiring
 pub mod WholeStreams
 pub mod Standing
+pub mod Laws

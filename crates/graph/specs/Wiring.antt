@@ -1,5 +1,5 @@
 -- How the blocks of a graph are joined, and which graphs are well formed.
-use Rattle.std.specs.Prelude.{◌≡◌, ◌<◌, ℕ, List, [], length, get_or}
+use Rattle.std.specs.Prelude.{◌≡◌, ◌<◌, ℕ, [], length, get_or}
 use Rattle.block_core.specs.Kind.{ins_of, outs_of}
 use Rattle.stream_model.specs.declared.labels.Tree.TheVariants as tree
 use Rattle.stream_model.specs.declared.labels.Attr.TheVariants as attr

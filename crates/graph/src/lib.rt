@@ -3,4 +3,17 @@
 
 mod graphs;
 
+ghost use Rattle.graph.specs.Laws.{StreamsAreGiven, OnlyWholeStreams};
+
 pub use graphs::{Block, Channel, Graph, Kind};
+
+/// In a well formed graph the whole stream of each channel is the one that its block gives from its whole inputs.
+pub fn streams_are_given()
+    ensures { StreamsAreGiven }
+{}
+
+/// Streams of the channels of a well formed graph, each of which its block gives from those at its inputs, are the whole
+/// streams.
+pub fn only_whole_streams()
+    ensures { OnlyWholeStreams }
+{}
