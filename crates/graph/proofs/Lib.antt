@@ -1,2 +1,4 @@
 pub mod Ranks
 pub mod Streams
+mod Placing
+mod Placed

@@ -2,10 +2,13 @@
 #![tactic(auto)]
 
 mod graphs;
+mod order;
+mod ports;
 
 ghost use Rattle.graph.specs.Laws.{StreamsAreGiven, OnlyWholeStreams};
 
 pub use graphs::{Block, Channel, Graph, Kind};
+pub use order::forward_order;
 
 /// In a well formed graph the whole stream of each channel is the one that its block gives from its whole inputs.
 pub fn streams_are_given()
