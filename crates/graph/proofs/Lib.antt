@@ -1,4 +1,5 @@
 pub mod Ranks
 pub mod Streams
+mod Formed
 mod Placing
 mod Placed
