@@ -3,3 +3,7 @@ pub mod Streams
 mod Formed
 mod Placing
 mod Placed
+mod Vectors
+mod Worked
+mod WorkedWiring
+mod WorkedConsistent
