@@ -1,0 +1,6 @@
+//! The blocks of every kind as one type.
+#![tactic(auto)]
+
+mod blocks;
+
+pub use blocks::AnyBlock;
