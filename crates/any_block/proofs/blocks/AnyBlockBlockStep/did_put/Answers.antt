@@ -68,4 +68,3 @@ returns-in-WriteLevel-clause-moved c = rw c.in-WriteLevel.is c.did_put-in-WriteL
 
 pub returns-in-WriteValue-clause-moved : goal.returns-in-WriteValue-clause-moved
 returns-in-WriteValue-clause-moved c = rw c.in-WriteValue.is c.did_put-in-WriteValue.ensures.moved
-

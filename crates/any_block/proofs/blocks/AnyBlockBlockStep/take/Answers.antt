@@ -73,4 +73,3 @@ returns-in-WriteLevel-clause-moved c = rw c.in-WriteLevel.is c.take-in-WriteLeve
 
 pub returns-in-WriteValue-clause-moved : goal.returns-in-WriteValue-clause-moved
 returns-in-WriteValue-clause-moved c = rw c.in-WriteValue.is c.take-in-WriteValue.ensures.moved
-

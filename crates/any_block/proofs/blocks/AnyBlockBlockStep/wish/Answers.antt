@@ -53,4 +53,3 @@ returns-in-WriteLevel c = rw c.in-WriteLevel.is c.wish-in-WriteLevel.ensures
 
 pub returns-in-WriteValue : goal.returns-in-WriteValue
 returns-in-WriteValue c = rw c.in-WriteValue.is c.wish-in-WriteValue.ensures
-
