@@ -1,4 +1,4 @@
 mod AluRuns
 mod ChangeRuns
 mod RootRuns
-mod InRange
+pub mod InRange

@@ -1,3 +1,3 @@
 mod Places
 mod ScanRuns
-mod InRange
+pub mod InRange
