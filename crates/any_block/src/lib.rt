@@ -3,6 +3,8 @@
 
 mod assembly;
 mod blocks;
+mod gathering;
 
 pub use assembly::assemble;
 pub use blocks::AnyBlock;
+pub use gathering::gather;
