@@ -1,10 +1,12 @@
 pub mod AnswerLemmas
 pub mod Denoted
-pub mod OneFiber
+pub mod ProductCarried
+pub mod ProductRun
+pub mod ProductStreams
+pub mod ProductWired
 pub mod Reading
 pub mod ReportLemmas
 pub mod ServedLemmas
-pub mod SharedFacts
 pub mod StepLemmas
 pub mod TensorLists
 pub mod VectorPrograms

@@ -1,7 +1,6 @@
 pub mod Answers
 pub mod Commands
-pub mod Lists
-pub mod Next
-pub mod Product
+pub mod ProductGraph
 pub mod Steps
 pub mod VectorProducts
+pub mod Vectors

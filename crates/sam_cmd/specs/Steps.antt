@@ -75,11 +75,9 @@ pub record TensorsFault (files : FilesSpan) (ts : List TensorType) (fault : Faul
   pub before_read : ReadsTensors files.told before entries
   pub faulty : TensorFault files tensor fault
 
--- of the tensors with these entries the accepted program multiplies these two
-pub record IsProductOf (p : ProgramType) (entries : List Entries) (left right : Ranked) : Type 0 where
-  pub factors : ℕ × ℕ
+-- the accepted program multiplies these two of its tensors, which are stored from these entries
+pub record IsProductOf (p : ProgramType) (entries : List Entries) (storages : List Ranked) (left right : ℕ) : Type 0 where
   pub is_accepted : accepted p ≡ true
-  pub is_product : vector_product p ≡ Some factors
+  pub is_product : vector_product p ≡ Some (left, right)
   pub each : length entries ≡ length p.tensors
-  pub left_stored : left ≡ ranked (tensor_at (stored_of p.tensors entries) factors.0)
-  pub right_stored : right ≡ ranked (tensor_at (stored_of p.tensors entries) factors.1)
+  pub are_stored : storages ≡ map ranked (stored_of p.tensors entries)

@@ -238,7 +238,7 @@ fn step<F: Files>(alloc: Global, files: &mut F, name: &Name) -> Result<Name, Fau
         Ok(storages) => storages,
         Err(fault) => return Err(fault),
     };
-    match product_text(alloc, &program, storages.get(left), storages.get(right)) {
+    match product_text(alloc, &program, storages.as_slice(), left, right) {
         Ok(text) => Ok(text),
         Err(_) => Err(Fault::OutOfMemory),
     }

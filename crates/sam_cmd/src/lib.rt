@@ -9,8 +9,8 @@ ghost use Rattle.sam_cmd.specs.Answers.{Answered, Complete};
 
 mod answer;
 mod command;
-mod lists;
 mod product;
+mod product_graph;
 mod report;
 #[cfg(test)]
 mod tests;

@@ -24,19 +24,19 @@ fn is_of_vectors(p: &Program) -> bool
     p.var_sizes.len() == 1 && p.result.dims.len() == 1 && are_vectors(p.tensors.as_slice())
 }
 
-fn two_accesses(factors: &[Factor]) -> Option<(usize, usize)>
+fn two_accesses(factors: &[Factor]) -> Option<(u32, u32)>
     ensures { result ≡ two factors.now }
 {
     match factors {
         [
             Factor::Access { tensor: left, .. },
             Factor::Access { tensor: right, .. },
-        ] => { Some((*left as usize, *right as usize)) }
+        ] => Some((*left, *right)),
         _ => None,
     }
 }
 
-fn product_of(terms: &[Term]) -> Option<(usize, usize)>
+fn product_of(terms: &[Term]) -> Option<(u32, u32)>
     ensures { result ≡ product terms.now }
 {
     match terms {
@@ -46,7 +46,7 @@ fn product_of(terms: &[Term]) -> Option<(usize, usize)>
 }
 
 /// The tensors that a program multiplies, by their numbers, if it is the product of two compressed vectors.
-pub fn vector_product(p: &Program) -> Option<(usize, usize)>
+pub fn vector_product(p: &Program) -> Option<(u32, u32)>
     ensures { result ≡ multiplied p.now }
 {
     if is_of_vectors(p) {

@@ -1,0 +1,50 @@
+-- What a run of the graph of the product of two vectors leaves.
+use Rattle.std.specs.Prelude.{◌≡◌, ◌<◌, ℕ, List, [], ◌∷◌, length, Some, refl}
+use mathlib.Core.List.{map}
+use Rattle.std.proofs.Common.{sym, ap, ◌∙◌, arith}
+use Rattle.stream_tokens.specs.declared.Token.{Token}
+use Rattle.stream_tokens.specs.Nest.{Leaf}
+use Rattle.stream_tokens.specs.Flat.{put_leaf, fibers_of}
+use Rattle.std.proofs.lemmas.List.{length-map}
+use Rattle.sam_model.specs.Children.{Ranked}
+use Rattle.sam_model.proofs.OneLevel.{one_level}
+use Rattle.block_core.specs.Written.{segs_of, crds_of, vals_of, items_in, ends_from}
+use Rattle.block_core.specs.Ports.{port}
+use Rattle.graph.specs.WholeStreams.{whole_stream, whole_inputs, Consistent}
+use Rattle.graph.proofs.Carried.{Carried, carried-whole, carried-consistent}
+use Rattle.any_block.specs.Gathering.{written_listing}
+use Rattle.sam_cmd.specs.ProductGraph.{product_graph}
+use Rattle.sam_cmd.specs.Vectors.{product_written, shared_coordinates, AreVectors}
+use Rattle.sam_cmd.proofs.ProductWired.{product-wired}
+use Rattle.sam_cmd.proofs.ProductStreams.{fiber}
+use Rattle.sam_cmd.proofs.ProductCarried.{product-carried, product_streams, shared, products}
+use Rattle.sam_cmd.proofs.VectorStored.{vector-at, stored-here, rank-here, products-are}
+
+-- the numbers of one fiber
+items-fiber : (xs : List ℕ) → items_in (fiber xs) ≡ xs
+items-fiber [] = refl
+items-fiber (x ∷ xs) = ap (λ (ys : List ℕ). x ∷ ys) (items-fiber xs)
+
+fibers-fiber : (xs : List ℕ) → fibers_of (fiber xs) ≡ (map Some xs, 1) ∷ []
+fibers-fiber [] = refl
+fibers-fiber (x ∷ xs) = ap (put_leaf (Some x)) (fibers-fiber xs)
+
+-- the arrays of one fiber of coordinates, and the values of another
+listed : (xs vs : List ℕ) → record { segs = segs_of 1 (fiber xs) ∷ []; crds = crds_of (fiber xs) ∷ []; vals = vals_of (fiber vs) } ≡ one_level xs vs
+listed xs vs = rw (fibers-fiber xs, items-fiber xs, items-fiber vs, length-map xs (λ (x : ℕ). Some x)) refl
+
+module _ (storages : List Ranked) (a b n : ℕ) (left right : List (List ℕ × ℕ)) (are : AreVectors storages a b n left right) where
+  carried : Carried storages (product_graph a b) (product_streams storages a b n (stored-here n left) (stored-here n right) (rank-here n left) (rank-here n right))
+  carried =
+      product-carried storages a b n (stored-here n left) (stored-here n right) (rank-here n left) (rank-here n right)
+      (vector-at n left _ are.left_stored) (vector-at n right _ are.right_stored)
+
+  pub product-consistent : Consistent storages (product_graph a b)
+  product-consistent = carried-consistent storages (product_graph a b) _ (product-wired a b) carried
+
+  pub product-listed : written_listing storages (product_graph a b) 1 ≡ product_written n left right
+  product-listed =
+      let streams = product_streams storages a b n (stored-here n left) (stored-here n right) (rank-here n left) (rank-here n right) in
+      let at : (c : ℕ) (i : c < 15) → whole_stream storages (product_graph a b) c ≡ streams c =
+          λ c i. sym (carried-whole storages (product_graph a b) streams (product-wired a b) carried c i) in
+      rw (at 11 (omega arith), at 12 (omega arith)) (listed _ _ ∙ ap (one_level (shared_coordinates n left right)) (products-are storages a b n left right are))
