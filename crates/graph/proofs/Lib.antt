@@ -1,6 +1,8 @@
 pub mod Ranks
 pub mod Streams
 mod Formed
+pub mod ByTest
+pub mod Carried
 mod Placing
 mod Placed
 mod Vectors

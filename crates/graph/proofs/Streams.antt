@@ -14,7 +14,7 @@ use Rattle.graph.specs.Laws.{StreamsAreGiven, OnlyWholeStreams}
 use Rattle.graph.proofs.Ranks.{place, place-below, place-rises}
 
 -- two functions that agree at each place of a list
-map-agree : {A : Type 0} (f h : ℕ → A) (ds : List ℕ) → ((p : ℕ) → p < length ds → f (get_or ds p 0) ≡ h (get_or ds p 0)) → map f ds ≡ map h ds
+pub map-agree : {A : Type 0} (f h : ℕ → A) (ds : List ℕ) → ((p : ℕ) → p < length ds → f (get_or ds p 0) ≡ h (get_or ds p 0)) → map f ds ≡ map h ds
 map-agree f h [] same = refl
 map-agree f h (d ∷ ds) same =
     let first : f d ≡ h d = same 0 (omega arith) in
