@@ -4,12 +4,12 @@ use mathlib.Core.List.{map}
 use Rattle.std.proofs.Common.{arith, sym, ◌∙◌, ap, subst}
 use Rattle.stream_tokens.specs.declared.Token.{Token}
 use Rattle.sam_model.specs.Children.{Ranked}
-use Rattle.block_core.specs.Ports.{Streams, port}
-use Rattle.block_core.specs.Kind.{Fits, outputs}
+use Rattle.block_core.specs.Ports.{port}
+use Rattle.block_core.specs.Kind.{Fits}
 use Rattle.block_core.proofs.Given.{Gives}
 use Rattle.graph.specs.declared.graphs.Graph.{Graph}
 use Rattle.graph.specs.Meaning.{meaning}
-use Rattle.graph.specs.Wiring.{WellFormed, block, channel, out_of}
+use Rattle.graph.specs.Wiring.{WellFormed, block, channel}
 use Rattle.graph.specs.WholeStreams.{whole_stream, whole_inputs, Consistent}
 use Rattle.graph.specs.Laws.{Given}
 use Rattle.graph.proofs.Streams.{map-agree, only-whole-streams}

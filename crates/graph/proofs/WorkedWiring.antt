@@ -1,13 +1,11 @@
 -- Worked cases: a graph that is well formed, an order in which its channels lead forwards, and a ring.
-use Rattle.std.specs.Prelude.{◌≡◌, ◌<◌, ℕ, zero, suc, Bool, true, ◌&&◌, List, [], ◌∷◌, length, get_or, eqb, ltb, refl}
-use Rattle.std.proofs.Common.{inl, inr, arith, subst}
-use Rattle.std.proofs.lemmas.Bool.{and_parts, cases_lt, eqb-true, ltb-true}
+use Rattle.std.specs.Prelude.{◌<◌, ℕ, List, [], ◌∷◌, get_or, eqb, ltb, refl}
+use Rattle.std.proofs.Common.{arith}
+use Rattle.std.proofs.lemmas.Bool.{eqb-true, ltb-true}
 use Rattle.std.proofs.lemmas.List.Elements.{All-from_get_or}
-use Rattle.block_core.specs.Kind.{ins_of, outs_of}
 use Rattle.graph.specs.declared.graphs.Kind.TheVariants.{Cast}
 use Rattle.graph.specs.declared.graphs.Graph.{Graph}
-use Rattle.graph.specs.Meaning.{meaning}
-use Rattle.graph.specs.Wiring.{block, channel, into, out_of, Rises, WellFormed}
+use Rattle.graph.specs.Wiring.{Rises, WellFormed}
 use Rattle.graph.specs.Joined.{Joined}
 use Rattle.graph.specs.Order.{place_in, IsForwardOrder}
 use Rattle.graph.proofs.ByTest.{below-all, joined-from, rises-from, formed-from}
