@@ -3,3 +3,8 @@ pub mod Event
 pub mod Waiting
 pub mod Sums
 pub mod Always
+pub mod Passed
+pub mod Ends
+pub mod Finishing
+pub mod Count
+mod Worked

@@ -1,8 +1,8 @@
 -- The tokens that a beginning of a list of moves takes and puts.
-use Rattle.std.specs.Prelude.{◌≡◌, ℕ, zero, suc, Bool, true, false, cond, eqb, List, [], ◌∷◌, ◌++◌, take, drop, slice_get, Some}
-use Rattle.std.proofs.Common.{refl, sym, ◌∙◌, ap}
+use Rattle.std.specs.Prelude.{◌≡◌, ℕ, zero, suc, ◌≤◌, Bool, true, false, cond, eqb, List, [], ◌∷◌, ◌++◌, length, take, drop, slice_get, Some}
+use Rattle.std.proofs.Common.{arith, refl, sym, ◌∙◌, ap, length-append}
 use Rattle.std.proofs.lemmas.Bool.{eq-eqb, ne_eqb}
-use Rattle.std.proofs.lemmas.List.{take-append-drop}
+use Rattle.std.proofs.lemmas.List.{take-append-drop, take-take}
 use Rattle.stream_tokens.specs.declared.Token.{Token}
 use Rattle.block_core.specs.Move.{Move, Taking, Putting, takes, puts}
 
@@ -59,3 +59,22 @@ takes_more p ms n m e = ap (takes p) (take-more ms n m e) ∙ takes-append p (ta
 pub puts_more : (p : ℕ) (ms : List Move) (n : ℕ) (m : Move) → slice_get ms n ≡ Some m
     → puts p (take (suc n) ms) ≡ puts p (take n ms) ++ puts p (m ∷ [])
 puts_more p ms n m e = ap (puts p) (take-more ms n m e) ∙ puts-append p (take n ms) (m ∷ [])
+
+-- more moves take and put no fewer tokens
+pub takes_longer : (p : ℕ) (ms : List Move) (n m : ℕ) → n ≤ m → length (takes p (take n ms)) ≤ length (takes p (take m ms))
+takes_longer p ms n m l =
+    omega (
+      arith,
+      ap length (takes_split p n (take m ms)),
+      length-append (takes p (take n (take m ms))) (takes p (drop n (take m ms))),
+      ap (λ (z : List Move). length (takes p z)) (take-take n m ms l),
+    )
+
+pub puts_longer : (p : ℕ) (ms : List Move) (n m : ℕ) → n ≤ m → length (puts p (take n ms)) ≤ length (puts p (take m ms))
+puts_longer p ms n m l =
+    omega (
+      arith,
+      ap length (puts_split p n (take m ms)),
+      length-append (puts p (take n (take m ms))) (puts p (drop n (take m ms))),
+      ap (λ (z : List Move). length (puts p z)) (take-take n m ms l),
+    )

@@ -68,7 +68,7 @@ waits_take_there net s b p t c q w e l other h =
     sent_take net s b p t c e ∙ h ∙ ap (λ (z : List Token). z ++ q) (sym (got_take_there net s b p t c w e l other))
 
 -- what the block's next move takes from the whole stream, and what comes after that
-next_of_whole : (net : Net) (s : State) (b p : ℕ) (u : Token) → Wired net → slice_get (net.moves b) (s b) ≡ Some (Taking p u)
+pub next_of_whole : (net : Net) (s : State) (b p : ℕ) (u : Token) → Wired net → slice_get (net.moves b) (s b) ≡ Some (Taking p u)
     → (rest : List Token) × (whole net (net.into b p) ≡ got net s (net.into b p) ++ u ∷ rest)
 next_of_whole net s b p u w e =
     let c = net.into b p in

@@ -1,5 +1,5 @@
 -- The laws of plays.
-use Rattle.std.specs.Prelude.{◌≡◌, ℕ, ◌+◌, ◌*◌, ◌≤◌, length}
+use Rattle.std.specs.Prelude.{◌≡◌, ℕ, ◌+◌, ◌*◌, ◌<◌, ◌≤◌, length}
 use Rattle.plays.specs.Net.{Net, Rooms, State, Wired, Stuck, Finished, Reached, NoMore, Kept, Forwards, WholeRoom, Suffices, sum_below, sent, got, whole}
 
 -- A stuck state is never passed under limits that are at most as large: no block makes more moves than there.
@@ -30,14 +30,14 @@ abbrev pub NoStall : Type 0
 NoStall = (net : Net) (rooms : Rooms) (rank : ℕ → ℕ) (s : State) → Wired net → Forwards net rank → WholeRoom net rooms
     → Reached net rooms s → Stuck net rooms s → Finished net s
 
--- Each event is a put on one channel or a take from one.
+-- Each move is a put on one channel or a take from one.
 abbrev pub EachCounts : Type 0
-EachCounts = (net : Net) (rooms : Rooms) (s : State) → Wired net → Reached net rooms s
+EachCounts = (net : Net) (s : State) → Wired net → ((b : ℕ) → b < net.blocks → s b ≤ length (net.moves b))
     → sum_below net.blocks s ≡ sum_below net.channels (λ c. length (sent net s c) + length (got net s c))
 
 -- A finished state has made twice as many moves as all streams are long together.
 abbrev pub TwiceEach : Type 0
-TwiceEach = (net : Net) (rooms : Rooms) (s : State) → Wired net → Reached net rooms s → Finished net s
+TwiceEach = (net : Net) (s : State) → Wired net → Finished net s
     → sum_below net.blocks s ≡ 2 * sum_below net.channels (λ c. length (whole net c))
 
 -- A larger limit on all channels suffices where a smaller one does.
