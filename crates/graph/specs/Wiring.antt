@@ -39,19 +39,37 @@ out_of g b p = get_or (block g b).outs p 0
 abbrev pub Rises : Graph → (ℕ → ℕ) → Type 0
 Rises g rank = (c : ℕ) → c < length g.channels → rank (channel g c).from_block < rank (channel g c).to_block
 
+-- the channel at an input port names it back
+abbrev pub NamesInput : Graph → ℕ → ℕ → Type 0
+NamesInput g b p =
+    (into g b p < length g.channels) × ((channel g (into g b p)).to_block ≡ b) × ((channel g (into g b p)).to_port ≡ p)
+
+-- and the channel at an output port
+abbrev pub NamesOutput : Graph → ℕ → ℕ → Type 0
+NamesOutput g b p =
+    (out_of g b p < length g.channels) × ((channel g (out_of g b p)).from_block ≡ b) × ((channel g (out_of g b p)).from_port ≡ p)
+
+-- a channel is listed at the input port that it names
+abbrev pub IsReceived : Graph → ℕ → Type 0
+IsReceived g c =
+    ((channel g c).to_block < length g.blocks)
+    × ((channel g c).to_port < length (block g (channel g c).to_block).ins)
+    × (into g (channel g c).to_block (channel g c).to_port ≡ c)
+
+-- and at the output port
+abbrev pub IsSent : Graph → ℕ → Type 0
+IsSent g c =
+    ((channel g c).from_block < length g.blocks)
+    × ((channel g c).from_port < length (block g (channel g c).from_block).outs)
+    × (out_of g (channel g c).from_block (channel g c).from_port ≡ c)
+
 -- Each kind has its number of ports, each port has one channel, which names it back, each channel is listed at both ports
 -- that it names, and no channel leads round to its own block.
 pub record WellFormed (g : Graph) : Type 0 where
   pub ins_number : (b : ℕ) → b < length g.blocks → length (block g b).ins ≡ ins_of (meaning [] (block g b).kind)
   pub outs_number : (b : ℕ) → b < length g.blocks → length (block g b).outs ≡ outs_of (meaning [] (block g b).kind)
-  pub in_named : (b p : ℕ) → b < length g.blocks → p < length (block g b).ins
-      → (into g b p < length g.channels) × ((channel g (into g b p)).to_block ≡ b) × ((channel g (into g b p)).to_port ≡ p)
-  pub out_named : (b p : ℕ) → b < length g.blocks → p < length (block g b).outs
-      → (out_of g b p < length g.channels) × ((channel g (out_of g b p)).from_block ≡ b) × ((channel g (out_of g b p)).from_port ≡ p)
-  pub received : (c : ℕ) → c < length g.channels → ((channel g c).to_block < length g.blocks)
-      × ((channel g c).to_port < length (block g (channel g c).to_block).ins)
-      × (into g (channel g c).to_block (channel g c).to_port ≡ c)
-  pub came : (c : ℕ) → c < length g.channels → ((channel g c).from_block < length g.blocks)
-      × ((channel g c).from_port < length (block g (channel g c).from_block).outs)
-      × (out_of g (channel g c).from_block (channel g c).from_port ≡ c)
+  pub in_named : (b p : ℕ) → b < length g.blocks → p < length (block g b).ins → NamesInput g b p
+  pub out_named : (b p : ℕ) → b < length g.blocks → p < length (block g b).outs → NamesOutput g b p
+  pub received : (c : ℕ) → c < length g.channels → IsReceived g c
+  pub came : (c : ℕ) → c < length g.channels → IsSent g c
   pub forwards : (rank : ℕ → ℕ) × Rises g rank

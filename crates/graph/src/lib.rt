@@ -2,10 +2,15 @@
 #![tactic(auto)]
 
 mod graphs;
+mod order;
+mod ports;
+mod wiring;
 
 ghost use Rattle.graph.specs.Laws.{StreamsAreGiven, OnlyWholeStreams};
 
 pub use graphs::{Block, Channel, Graph, Kind};
+pub use order::forward_order;
+pub use wiring::well_formed;
 
 /// In a well formed graph the whole stream of each channel is the one that its block gives from its whole inputs.
 pub fn streams_are_given()
