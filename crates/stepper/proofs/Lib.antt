@@ -6,3 +6,4 @@ pub mod Taking
 pub mod Stepping
 pub mod Putting
 pub mod Turns
+pub mod Stalling

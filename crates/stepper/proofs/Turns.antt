@@ -1,7 +1,7 @@
 -- Turns of blocks, one after another.
 use Rattle.std.specs.Prelude.{◌≡◌, ◌<◌, ◌≤◌, ℕ, zero, suc, ◌+◌, Bool, true, false, cond, List, [], ◌∷◌, ◌++◌, length, take, slice_get, get_or, Option, Some, None, refl}
 use Rattle.std.proofs.Common.{arith, sym, ◌∙◌, ap, subst, append-nil, append_assoc}
-use Rattle.std.proofs.lemmas.List.{take_more}
+use Rattle.std.proofs.lemmas.List.{take_more, get_or_default}
 use Rattle.std.proofs.lemmas.Option.{slice_get_past}
 use Rattle.stream_tokens.specs.declared.Token.{Token}
 use Rattle.sam_model.specs.Children.{Ranked}
@@ -9,7 +9,7 @@ use Rattle.block_core.specs.Move.{Move, Taking, Putting}
 use Rattle.block_core.specs.Ports.{Streams}
 use Rattle.block_core.specs.Kind.{Kind}
 use Rattle.graph.specs.declared.graphs.Graph.{Graph}
-use Rattle.plays.specs.Net.{Net, Rooms, State, can, can_move, turn, play, raise}
+use Rattle.plays.specs.Net.{Net, Rooms, State, Stuck, can, can_move, turn, play, raise}
 use Rattle.plays.proofs.Always.{turn_made, turn_idle, play_append}
 use Rattle.stepper.specs.Held.{Held}
 use Rattle.stepper.specs.NetOf.{net_of, rooms_of}
@@ -123,3 +123,41 @@ shape_then x y z a b = (b.0 ∙ a.0, b.1 ∙ a.1, b.2 ∙ a.2)
 
 pub lists_same : (n m : ℕ) (told : Lists) → m ≡ n → HasLists m told → HasLists n told
 lists_same n m told e h = subst (λ k. HasLists k told) e h
+
+-- ---- events
+
+module _ {B : Type 0} (kind : B → Kind) (stands : B → Streams → ℕ → Type 0) where
+
+  pub onwards_none : (m : Held B) (told : Lists) → Onwards kind stands m told m told
+  onwards_none m told storages g caps s h = (s, ([], refl), h, grew_same (net_of storages g) s told)
+
+  pub onwards_same : (m : Held B) (told : Lists) (m' : Held B) (told' : Lists) → (m' ≡ m) × (told' ≡ told) → Onwards kind stands m told m' told'
+  onwards_same m told m' told' e = subst (λ z. Onwards kind stands m told z told') (sym e.0) (subst (Onwards kind stands m told m) (sym e.1) (onwards_none m told))
+
+  pub onwards_then : (m : Held B) (told : Lists) (m' : Held B) (told' : Lists) (m'' : Held B) (told'' : Lists)
+      → Onwards kind stands m told m' told' → Onwards kind stands m' told' m'' told'' → Onwards kind stands m told m'' told''
+  onwards_then m told m' told' m'' told'' first next storages g caps s h =
+      let net = net_of storages g in
+      let rooms = rooms_of caps in
+      let p = first storages g caps s h in
+      let q = next storages g caps p.0 p.2 in
+      (q.0, (p.1.0 ++ q.1.0, q.1.1 ∙ ap (λ (x : State). play net rooms x q.1.0) p.1.1 ∙ sym (play_append net rooms s p.1.0 q.1.0)), q.2,
+        grew_then net s p.0 q.0 told told' told'' p.3 q.3)
+
+  pub onwards_turned : (b : ℕ) (moved : Bool) (m : Held B) (told : Lists) (m' : Held B) (told' : Lists)
+      → Turned kind stands b moved m told m' told' → Onwards kind stands m told m' told'
+  onwards_turned b moved m told m' told' h storages g caps s a =
+      let r = h storages g caps s a in
+      (turn (net_of storages g) (rooms_of caps) s b, (b ∷ [], refl), r.1, r.2)
+
+  pub onwards_moved : (b : ℕ) (m : Held B) (told : Lists) (m' : Held B) (told' : Lists)
+      → Moved kind stands b m told m' told' → Onwards kind stands m told m' told'
+  onwards_moved b m told m' told' h = onwards_turned b true m told m' told' (turned_moved kind stands b m told m' told' h)
+
+  -- a pass in which no block could move
+  pub all_cannot : (m : Held B) (n : ℕ) → length m.routes.order ≤ n
+      → ((k : ℕ) → k < n → Wherever kind stands m (λ net rooms s. can net rooms s (get_or m.routes.order k 0) ≡ false)) → Wherever kind stands m Stuck
+  all_cannot m n l cannot storages g caps s h b lb =
+      let at = h.routed.order.whole b lb in
+      let same : get_or m.routes.order at.0 0 ≡ b = get_or_default m.routes.order at.0 0 b at.1 ∙ at.2 in
+      subst (λ x. can (net_of storages g) (rooms_of caps) s x ≡ false) same (cannot at.0 (omega (arith, l, at.1)) storages g caps s h)

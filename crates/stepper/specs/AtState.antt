@@ -1,10 +1,11 @@
 -- Where a machine stands.
-use Rattle.std.specs.Prelude.{◌≡◌, ◌<◌, ◌≤◌, ℕ, ◌+◌, ◌-◌, ◌^◌, min, List, length, slice_get, get_or, All, Contains, Option, Some}
+use Rattle.std.specs.Prelude.{◌≡◌, ◌<◌, ◌≤◌, ℕ, ◌+◌, ◌-◌, ◌^◌, min, List, length, slice_get, get_or, Option, Some}
 use Rattle.sam_model.specs.Children.{Ranked}
 use Rattle.block_core.specs.Ports.{Streams}
 use Rattle.block_core.specs.Kind.{Kind}
 use Rattle.graph.specs.declared.graphs.Graph.{Graph}
 use Rattle.graph.specs.Wiring.{block, WellFormed}
+use Rattle.graph.specs.Order.{IsForwardOrder}
 use Rattle.graph.specs.WholeStreams.{Consistent}
 use Rattle.graph.specs.Standing.{StandAt}
 use Rattle.plays.specs.Net.{Net, State, Kept, Waits, sum_below}
@@ -17,13 +18,12 @@ pub record Lists (t : Table) (n : ℕ) (row : ℕ → List ℕ) : Type 0 where
   pub within : (b p : ℕ) → b < n → p < length (row b) → get_or t.first b 0 + p < length t.channels
   pub same : (b p : ℕ) → b < n → p < length (row b) → at_port t b p ≡ get_or (row b) p 0
 
--- The routes are those of a graph, and every block is visited.
+-- The routes are those of a graph, and blocks are visited in an order in which its channels lead forwards.
 pub record Routed (g : Graph) (r : Routes) : Type 0 where
   pub few : length g.blocks < 2 ^ 32
   pub ins : Lists r.ins (length g.blocks) (λ b. (block g b).ins)
   pub outs : Lists r.outs (length g.blocks) (λ b. (block g b).outs)
-  pub visited : All (λ b. b < length g.blocks) r.order
-  pub all_visited : (b : ℕ) → b < length g.blocks → Contains r.order b
+  pub order : IsForwardOrder g r.order
 
 -- what a queue holds was put on its channel and not taken yet, and its limit is the channel's
 abbrev pub QueueOf : Net → (ℕ → Option ℕ) → State → ℕ → Queued → Type 0

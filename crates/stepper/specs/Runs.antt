@@ -37,14 +37,12 @@ Turned kind stands b moved m told m' told' =
     × AtState kind stands storages g caps (turn (net_of storages g) (rooms_of caps) s b) m'
     × Grew (net_of storages g) s (turn (net_of storages g) (rooms_of caps) s b) told told'
 
--- Wherever the machine stood, events lead to where it stands, and that state has this property; a tap was given what was
--- put.
+-- Wherever the machine stood, events lead to where it stands; a tap was given what was put.
 abbrev pub Onwards : {B : Type 0} → (B → Kind) → (B → Streams → ℕ → Type 0)
-    → Held B → Option (List (List Token)) → Held B → Option (List (List Token)) → (Net → Rooms → State → State → Type 0) → Type 0
-Onwards kind stands m told m' told' P =
+    → Held B → Option (List (List Token)) → Held B → Option (List (List Token)) → Type 0
+Onwards kind stands m told m' told' =
     (storages : List Ranked) (g : Graph) (caps : List (Option ℕ)) (s : State) → AtState kind stands storages g caps s m
     → (t : State)
     × Leads (net_of storages g) (rooms_of caps) s t
     × AtState kind stands storages g caps t m'
     × Grew (net_of storages g) s t told told'
-    × P (net_of storages g) (rooms_of caps) s t

@@ -7,8 +7,11 @@ use crate::routes::Plan;
 use block_core::BlockStep;
 use std::marker::Model;
 
+mod finish;
 mod play;
 mod step;
+
+pub use finish::Ending;
 
 /// What a step did.
 #[derive(Clone, Copy, Debug, Drop, PartialEq, Eq)]

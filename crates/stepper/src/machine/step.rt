@@ -135,6 +135,25 @@ impl<B: BlockStep + Drop> Machine<B> {
         self.act(place, wish, tap)
     }
 
+    /// A block does what it wishes, where it can. The answer says whether it could.
+    #[inline]
+    pub(super) fn attempt<T: Tap>(&mut self, block: usize, wish: Wish, tap: &mut T) -> Result<bool, AllocError>
+        requires within { block < length self.old.blocks }
+        requires wishes { Wishes B.kind B.stands block wish self.old }
+        requires lists { HasLists (length self.old.queues) (T.told tap.old) }
+        ensures turned { IfOk result (λ moved. Turned B.kind B.stands block moved self.old (T.told tap.old) self.new (T.told tap.new)) }
+        ensures idle { result ≡ Ok false → (self.new ≡ self.old) × (T.told tap.new ≡ T.told tap.old) }
+        ensures refused { IfErr result (λ _. (self.new ≡ self.old) × (T.told tap.new ≡ T.told tap.old)) }
+        ensures same_shape { SameShape self.old self.new }
+        ensures lists_stay { HasLists (length self.old.queues) (T.told tap.new) }
+    {
+        match self.act(block, wish, tap)? {
+            Stepped::Moved => Ok(true),
+            Stepped::Blocked { .. } => Ok(false),
+            Stepped::Ended => Ok(false),
+        }
+    }
+
     /// One event of a block where there is one. The answer says whether there was.
     #[inline]
     pub(super) fn turn<T: Tap>(&mut self, block: usize, tap: &mut T) -> Result<bool, AllocError>
@@ -147,10 +166,6 @@ impl<B: BlockStep + Drop> Machine<B> {
         ensures lists_stay { HasLists (length self.old.queues) (T.told tap.new) }
     {
         let wish = self.wish(block);
-        match self.act(block, wish, tap)? {
-            Stepped::Moved => Ok(true),
-            Stepped::Blocked { .. } => Ok(false),
-            Stepped::Ended => Ok(false),
-        }
+        self.attempt(block, wish, tap)
     }
 }

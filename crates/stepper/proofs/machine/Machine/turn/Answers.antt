@@ -1,8 +1,0 @@
-use Rattle.std.proofs.Common.{◌≡◌, ap, Ok}
-use Rattle.stepper.proofs.Turns.{turned_ended}
-use Rattle.stepper.proofs.machine.Machine.turn.Goals as goal
-
-pub returns-in-Ended-clause-turned : goal.returns-in-Ended-clause-turned
-returns-in-Ended-clause-turned g c =
-    turned_ended g.B.BlockStep.kind g.B.BlockStep.stands c.args.block c.args.self.now (g.T.Tap.told c.args.tap.now) c.act.new.self (g.T.Tap.told c.act.new.tap)
-    (c.in_ok-act.ensures.ended (ap Ok c.in-Ended.is))
