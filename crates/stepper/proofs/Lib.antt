@@ -1,0 +1,9 @@
+pub mod Lists
+pub mod Wishes
+pub mod Wires
+pub mod Moving
+pub mod Taking
+pub mod Stepping
+pub mod Putting
+pub mod Turns
+pub mod Stalling

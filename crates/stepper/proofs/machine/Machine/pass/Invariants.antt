@@ -1,0 +1,11 @@
+use Rattle.std.proofs.Common.{length}
+use Rattle.stepper.specs.Told.{HasLists}
+use Rattle.stepper.specs.Steps.{SameShape}
+use Rattle.stepper.specs.Runs.{Onwards}
+use Rattle.stepper.proofs.machine.Machine.pass.Given as goal
+
+abbrev pub invariant-loop-n : goal.invariant-loop-n
+invariant-loop-n g l =
+    Onwards g.B.BlockStep.kind g.B.BlockStep.stands l.fn.self (g.T.Tap.told l.fn.tap) l.self (g.T.Tap.told l.tap)
+    × SameShape l.fn.self l.self
+    × HasLists (length l.fn.self.queues) (g.T.Tap.told l.tap)

@@ -1,0 +1,101 @@
+//! What waits on a channel.
+
+ghost use Rattle.std.specs.Prelude.{◌≡◌, ◌<◌, ◌-◌, [], ◌∷◌, ◌++◌, length, take, drop, slice_get, not, true, Some, None, IsOk, IsSome, IfOk, OnOk, OnErr};
+ghost use Rattle.plays.specs.Net.{has_room};
+
+use std::alloc::{AllocError, Global};
+use std::collections::VecDeque;
+use std::marker::Model;
+use stream_tokens::Token;
+
+/// A queue of tokens, which may have a limit. The memory of one that has is taken when it is made.
+#[derive(Drop)]
+pub(crate) struct Queue {
+    tokens: VecDeque<Token>,
+    room: Option<u32>,
+}
+
+impl Model for Queue {
+    ghost use Rattle.std.specs.Prelude.{◌≡◌, ◌≤◌, ℕ, Some};
+    ghost use Rattle.std.specs.VecDeque.{deque_capacity};
+    ghost use Rattle.stepper.specs.Held.{Queued};
+
+    ghost Value = { Queued };
+
+    ghost view = { λ q. record { tokens = q.tokens.items; room = q.room } };
+
+    ghost invariant = { λ q. (n : ℕ) → q.room ≡ Some n → n ≤ deque_capacity q.tokens };
+}
+
+impl Queue {
+    /// An empty queue.
+    pub(crate) fn new(alloc: Global, room: Option<u32>) -> Result<Queue, AllocError>
+        ensures empty { IfOk result (λ q. q.tokens ≡ []) }
+        ensures room { IfOk result (λ q. q.room ≡ room) }
+    {
+        let tokens = match room {
+            Some(most) => VecDeque::with_capacity(alloc, most as usize)?,
+            None => VecDeque::new(alloc),
+        };
+        Ok(Queue { tokens, room })
+    }
+
+    #[inline]
+    pub(crate) fn len(&self) -> usize
+        ensures { result ≡ length self.now.tokens }
+    {
+        self.tokens.len()
+    }
+
+    /// Whether there is no room for another token.
+    #[inline]
+    pub(crate) fn is_full(&self) -> bool
+        ensures { result ≡ not (has_room self.now.room (length self.now.tokens)) }
+    {
+        match self.room {
+            Some(most) => self.tokens.len() >= most as usize,
+            None => false,
+        }
+    }
+
+    /// The token that is taken next.
+    #[inline]
+    pub(crate) fn front(&self) -> Option<Token>
+        ensures { result ≡ slice_get self.now.tokens 0 }
+    {
+        self.tokens.front().copied()
+    }
+
+    /// Puts a token at the back, where there is room.
+    #[inline]
+    pub(crate) fn push(&mut self, t: Token) -> Result<(), AllocError>
+        requires { has_room self.old.room (length self.old.tokens) ≡ true }
+        ensures same_room { self.new.room ≡ self.old.room }
+        ensures ok { OnOk result (self.new.tokens ≡ self.old.tokens ++ t ∷ []) }
+        ensures err { OnErr result (self.new ≡ self.old) }
+        ensures sure { IsSome self.old.room → IsOk result }
+    {
+        match self.tokens.push_back(t) {
+            Ok(()) => Ok(()),
+            Err(_) => Err(AllocError),
+        }
+    }
+
+    /// Takes the token at the front away.
+    #[inline]
+    pub(crate) fn pop(&mut self)
+        ensures same_room { self.new.room ≡ self.old.room }
+        ensures rest { self.new.tokens ≡ drop 1 self.old.tokens }
+    {
+        let _front = self.tokens.pop_front();
+    }
+
+    /// Takes the token at the back away again.
+    #[inline]
+    pub(crate) fn unpush(&mut self)
+        ensures same_room { self.new.room ≡ self.old.room }
+        ensures rest { self.new.tokens ≡ take (length self.old.tokens - 1) self.old.tokens }
+    {
+        let _back = self.tokens.pop_back();
+    }
+}
