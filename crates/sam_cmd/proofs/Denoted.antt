@@ -1,9 +1,10 @@
 -- What a product of two vectors denotes is what is written of it.
-use Rattle.std.proofs.Common.{◌≡◌, ℕ, zero, suc, ◌+◌, ◌*◌, ◌%◌, ◌^◌, ◌≤◌, Bool, true, false, cond, ◌&&◌, ◌||◌, List, [], ◌∷◌, length, refl, sym, ap, subst, ◌∙◌, arith, add-zero, ltb, leb}
+use Rattle.std.proofs.Common.{◌≡◌, ℕ, zero, suc, ◌+◌, ◌*◌, ◌%◌, ◌^◌, ◌<◌, ◌≤◌, Bool, true, false, cond, ◌&&◌, ◌||◌, List, [], ◌∷◌, length, refl, sym, ap, subst, ◌∙◌, arith, add-zero, ltb, leb}
 use Rattle.std.specs.List.{filter, flat_map, list_all, range_with_len, zip}
 use Rattle.std.proofs.Math.Nat.{mod-mod, mul-one}
 use Rattle.std.proofs.lemmas.Bool.Decides.{nat_tests}
 use Rattle.std.proofs.lemmas.List.{length-map}
+use Rattle.std.proofs.lemmas.Option.{get_or_from_slice_get}
 use mathlib.Core.List.{map}
 use Rattle.sam_base.specs.declared.TheConstants.{DIMENSION_MOST}
 use Rattle.sam_model.specs.declared.tensors.Tensor.{Tensor}
@@ -17,8 +18,10 @@ use Rattle.sam_model.specs.ResultText.{listing_text, result_text}
 use Rattle.sam_model.specs.Listing.{InRange, listing}
 use Rattle.sam_model.specs.Children.{Ranked, ranked}
 use Rattle.sam_model.proofs.OneLevel.{one_level, one-level-range, one-level-listing, one_path}
-use Rattle.sam_cmd.specs.Product.{IsVector, product_written}
-use Rattle.sam_cmd.proofs.VectorStored.{one, vector, stored-here, shared-coordinates, product-at, product-is, is-vector}
+use Rattle.graph.specs.Meaning.{stored_at, no_storage}
+use Rattle.sam_cmd.specs.Vectors.{one, vector, shared_coordinates, product_at, AreVectors}
+use Rattle.sam_cmd.proofs.VectorStored.{stored-here}
+use Rattle.sam_cmd.proofs.TensorLists.{stored-each, stored-at}
 use Rattle.sam_cmd.proofs.VectorPrograms.{Multiplies, product_term}
 
 -- the tests and the values of one term, without what adds nothing
@@ -111,29 +114,29 @@ module _
   pattern-at : (c : ℕ) → pat program es (one c) ≡ stored-here n lefts c && stored-here n rights c
   pattern-at c = rw (order-a, stored-a, order-b, stored-b) (and-alone (stored-here n lefts c) (stored-here n rights c))
 
-  number-at : (c : ℕ) → den program es (one c) ≡ product-at n lefts rights c
+  number-at : (c : ℕ) → den program es (one c) ≡ product_at n lefts rights c
   number-at c = rw (order-a, stored-a, order-b, stored-b) (term-alone (value_at (vector n lefts) (one c)) _)
 
   entries-at :
       result_entries program es
-      ≡ map {B = List ℕ × ℕ} (λ c. (one c, product-at n lefts rights c)) (shared-coordinates n lefts rights)
+      ≡ map {B = List ℕ × ℕ} (λ c. (one c, product_at n lefts rights c)) (shared_coordinates n lefts rights)
   entries-at =
       ap (λ sizes. map {B = List ℕ × ℕ} (λ x. (x, den program es x)) (filter (pat program es) (tuples sizes)))
       (ap (λ ds. items_at ds result.order) dims ∙ ap (items_at (n ∷ [])) order)
-      ∙ entries-of-range (pat program es) (den program es) _ (product-at n lefts rights) pattern-at number-at 0 n
+      ∙ entries-of-range (pat program es) (den program es) _ (product_at n lefts rights) pattern-at number-at 0 n
 
 module _ (p : Program) (a b : ℕ) (es : List Entries) (h : Multiplies p a b) (each : length es ≡ length p.tensors) where
-  abbrev lefts : List (List ℕ × ℕ)
+  abbrev pub lefts : List (List ℕ × ℕ)
   lefts = (h.first.stored es each).0
 
-  abbrev rights : List (List ℕ × ℕ)
+  abbrev pub rights : List (List ℕ × ℕ)
   rights = (h.second.stored es each).0
 
   abbrev pub zs : List ℕ
-  zs = shared-coordinates h.size lefts rights
+  zs = shared_coordinates h.size lefts rights
 
   abbrev pub numbers : ℕ → ℕ
-  numbers = product-at h.size lefts rights
+  numbers = product_at h.size lefts rights
 
   entries-are : result_entries p es ≡ map {B = List ℕ × ℕ} (λ c. (one c, numbers c)) zs
   entries-are =
@@ -164,24 +167,22 @@ module _ (p : Program) (a b : ℕ) (es : List Entries) (h : Multiplies p a b) (e
       ∙ ap (list_all {X = List ℕ × ℕ} (λ entry. within (h.size ∷ []) entry.0)) listing-is
       ∙ within-range numbers _ h.size 0 h.size (omega arith)
 
-  -- the stored tensors of both factors
-  module _
-      (left right : Ranked) (left-is : left ≡ ranked (tensor_at (stored_of p.tensors es) a))
-      (right-is : right ≡ ranked (tensor_at (stored_of p.tensors es) b)) where
-    left-ranked : left ≡ ranked (vector h.size lefts)
-    left-ranked = left-is ∙ ap ranked (h.first.stored es each).1
+  -- both factors are stored vectors
+  module _ (storages : List Ranked) (stored : storages ≡ map ranked (stored_of p.tensors es)) where
+    stored-is : (c : ℕ) → c < length p.tensors → stored_at storages c ≡ ranked (tensor_at (stored_of p.tensors es) c)
+    stored-is c inside =
+        ap (λ list. stored_at list c) stored ∙ get_or_from_slice_get _ c _ no_storage (stored-at p.tensors es c each inside)
 
-    right-ranked : right ≡ ranked (vector h.size rights)
-    right-ranked = right-is ∙ ap ranked (h.second.stored es each).1
+    there : (c : ℕ) → c < length p.tensors → c < length storages
+    there c inside = omega (arith, inside, ap length stored, stored-each p.tensors es each)
 
-    pub left-vector : IsVector left
-    left-vector = rw left-ranked (is-vector h.size lefts)
-
-    pub right-vector : IsVector right
-    right-vector = rw right-ranked (is-vector h.size rights)
-
-    pub written-is : product_written left right ≡ one_level zs (map numbers zs)
-    written-is = rw (left-ranked, right-ranked) (product-is h.size lefts rights)
+    pub are-vectors : AreVectors storages a b h.size lefts rights
+    are-vectors = record {
+      left_there = there a h.first.inside;
+      right_there = there b h.second.inside;
+      left_stored = stored-is a h.first.inside ∙ ap ranked (h.first.stored es each).1;
+      right_stored = stored-is b h.second.inside ∙ ap ranked (h.second.stored es each).1;
+    }
 
 -- the result's dimension is in range
 pub dims-fit : (p : Program) (a b : ℕ) → Multiplies p a b → list_all (λ size. leb size DIMENSION_MOST) p.result.dims ≡ true

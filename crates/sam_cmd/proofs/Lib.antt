@@ -4,7 +4,6 @@ pub mod ProductCarried
 pub mod ProductRun
 pub mod ProductStreams
 pub mod ProductWired
-pub mod Reading
 pub mod ReportLemmas
 pub mod ServedLemmas
 pub mod StepLemmas

@@ -29,7 +29,7 @@ abbrev pub root_stream : List Token
 root_stream = Item 0 ∷ Done ∷ []
 
 -- a stored vector: its coordinates are those below n that pass a test, and each has a reference, with a value there
-pub record VectorAt (s : Ranked) (n : ℕ) (P : ℕ → Bool) (f : ℕ → ℕ) : Type 0 where
+pub record HasVector (s : Ranked) (n : ℕ) (P : ℕ → Bool) (f : ℕ → ℕ) : Type 0 where
   pub children : children_at s 1 ≡ map (λ c. (c, f c)) (filter P (range_with_len 0 n)) ∷ []
   pub valued : Each (λ c. f c < length s.values) (filter P (range_with_len 0 n))
 
@@ -90,7 +90,7 @@ both_right R P Q a (suc n) e = by_case (P a) (Q a) (both_right R P Q (a + 1) n) 
 
 -- ---- the blocks
 
-pub scan-vector : (s : Ranked) (n : ℕ) (P : ℕ → Bool) (f : ℕ → ℕ) → VectorAt s n P f
+pub scan-vector : (s : Ranked) (n : ℕ) (P : ℕ → Bool) (f : ℕ → ℕ) → HasVector s n P f
     → Gives (ScanKind (children_at s 1)) (root_stream ∷ []) (fiber (filter P (range_with_len 0 n)) ∷ fiber (map f (filter P (range_with_len 0 n))) ∷ [])
 scan-vector s n P f v =
     let xs = filter P (range_with_len 0 n) in
@@ -232,7 +232,7 @@ module _ (storages : List Ranked) (a b n : ℕ) (P Q : ℕ → Bool) (f g : ℕ 
       ∷ fiber shared ∷ fiber products
       ∷ root_stream ∷ root_stream ∷ []) c []
 
-  pub product-carried : VectorAt left_vector n P f → VectorAt right_vector n Q g → Carried storages (product_graph a b) product_streams
+  pub product-carried : HasVector left_vector n P f → HasVector right_vector n Q g → Carried storages (product_graph a b) product_streams
   product-carried l r zero i = root-gives
   product-carried l r (suc zero) i = scan-vector left_vector n P f l
   product-carried l r (suc (suc zero)) i = scan-vector right_vector n Q g r

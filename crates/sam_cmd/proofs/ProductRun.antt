@@ -18,7 +18,7 @@ use Rattle.sam_cmd.specs.Vectors.{product_written, shared_coordinates, AreVector
 use Rattle.sam_cmd.proofs.ProductWired.{product-wired}
 use Rattle.sam_cmd.proofs.ProductStreams.{fiber}
 use Rattle.sam_cmd.proofs.ProductCarried.{product-carried, product_streams, shared, products}
-use Rattle.sam_cmd.proofs.VectorStored.{vector-at, stored-here, rank-here, products-are}
+use Rattle.sam_cmd.proofs.VectorStored.{has-vector, stored-here, rank-here, products-are}
 
 -- the numbers of one fiber
 items-fiber : (xs : List ℕ) → items_in (fiber xs) ≡ xs
@@ -31,13 +31,13 @@ fibers-fiber (x ∷ xs) = ap (put_leaf (Some x)) (fibers-fiber xs)
 
 -- the arrays of one fiber of coordinates, and the values of another
 listed : (xs vs : List ℕ) → record { segs = segs_of 1 (fiber xs) ∷ []; crds = crds_of (fiber xs) ∷ []; vals = vals_of (fiber vs) } ≡ one_level xs vs
-listed xs vs = rw (fibers-fiber xs, items-fiber xs, items-fiber vs, length-map xs (λ (x : ℕ). Some x)) refl
+listed xs vs = rw (fibers-fiber xs, items-fiber xs, items-fiber vs, length-map xs (λ (x : ℕ). Some x)) (ap (λ (k : ℕ). record { segs = (0 ∷ k ∷ []) ∷ []; crds = xs ∷ []; vals = vs }) (omega arith))
 
 module _ (storages : List Ranked) (a b n : ℕ) (left right : List (List ℕ × ℕ)) (are : AreVectors storages a b n left right) where
   carried : Carried storages (product_graph a b) (product_streams storages a b n (stored-here n left) (stored-here n right) (rank-here n left) (rank-here n right))
   carried =
       product-carried storages a b n (stored-here n left) (stored-here n right) (rank-here n left) (rank-here n right)
-      (vector-at n left _ are.left_stored) (vector-at n right _ are.right_stored)
+      (has-vector n left _ are.left_stored) (has-vector n right _ are.right_stored)
 
   pub product-consistent : Consistent storages (product_graph a b)
   product-consistent = carried-consistent storages (product_graph a b) _ (product-wired a b) carried

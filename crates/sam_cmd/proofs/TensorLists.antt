@@ -1,6 +1,7 @@
 -- Tensors that are read and stored one after the other.
-use Rattle.std.proofs.Common.{◌≡◌, ℕ, zero, suc, ◌+◌, ◌<◌, List, [], ◌∷◌, ◌++◌, length, take, drop, Some, refl, sym, ap, subst, ◌∙◌, arith}
+use Rattle.std.proofs.Common.{add-one, ◌≡◌, ℕ, zero, suc, ◌+◌, ◌<◌, List, [], ◌∷◌, ◌++◌, length, take, drop, Some, refl, sym, ap, subst, ◌∙◌, arith}
 use Rattle.std.specs.Prelude.{Option, slice_get}
+use Rattle.std.proofs.Math.Seq.{drop-cons}
 use Rattle.std.proofs.lemmas.List.{take-append-drop, take_more}
 use Rattle.std.proofs.lemmas.Option.{slice_get_within, get_or_from_slice_get}
 use mathlib.Core.List.{map}
@@ -13,7 +14,13 @@ use Rattle.sam_model.specs.Denote.{stored_of, tensor_at}
 use Rattle.sam_model.specs.Children.{Ranked, ranked}
 use Rattle.sam_cmd.specs.Answers.{FilesSpan, ReadsTensor, ReadsTensors}
 use Rattle.sam_cmd.specs.Steps.{GivesStorage, GivesStorages, TensorFault, TensorsFault}
-use Rattle.sam_cmd.proofs.Reading.{drop-get}
+
+-- the rest of a list from an item on
+drop-get : {A : Type 0} (xs : List A) (n : ℕ) (x : A) → slice_get xs n ≡ Some x → drop n xs ≡ x ∷ drop (n + 1) xs
+drop-get xs n x here =
+    drop-cons xs n x (slice_get_within xs n x here)
+    ∙ ap (λ y. y ∷ drop (suc n) xs) (get_or_from_slice_get xs n x x here)
+    ∙ ap (λ k. x ∷ drop k xs) (sym (add-one n))
 
 -- one tensor more
 pub reads-more :

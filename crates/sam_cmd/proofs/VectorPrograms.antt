@@ -17,7 +17,7 @@ use Rattle.sam_model.specs.Lists.{below, items_at}
 use Rattle.sam_model.specs.Tensors.{Stored, stored_as}
 use Rattle.sam_model.specs.Denote.{stored_of, tensor_at, order_at}
 use Rattle.sam_cmd.specs.VectorProducts.{is_vector, two_accesses, product_of, is_of_vectors, vector_product}
-use Rattle.sam_cmd.proofs.VectorStored.{vector}
+use Rattle.sam_cmd.specs.Vectors.{vector}
 
 -- ---- one of each
 

@@ -13,7 +13,7 @@ use Rattle.sam_model.specs.Children.{Ranked, ranked}
 use Rattle.block_core.specs.Change.{value_at as value_of_rank}
 use Rattle.graph.specs.Meaning.{stored_at}
 use Rattle.sam_cmd.specs.Vectors.{one, vector, shared_coordinates, product_at, AreVectors}
-use Rattle.sam_cmd.proofs.ProductCarried.{VectorAt, shared, products}
+use Rattle.sam_cmd.proofs.ProductCarried.{HasVector, products}
 
 module _ (Q : List ℕ → Bool) where
   -- the prefixes of one coordinate of a range that pass
@@ -122,8 +122,8 @@ module _ (n : ℕ) (entries : List (List ℕ × ℕ)) where
       let place = has-place (is_stored (vector n entries)) (value_at (vector n entries)) 0 n c from to stored in
       (omega (arith, place.0, length-map (passing (is_stored (vector n entries)) 0 n) (value_at (vector n entries))), place.1)
 
-  pub vector-at : (s : Ranked) → s ≡ ranked (vector n entries) → VectorAt s n stored-here rank-here
-  vector-at s is = rw is (record {
+  pub has-vector : (s : Ranked) → s ≡ ranked (vector n entries) → HasVector s n stored-here rank-here
+  has-vector s is = rw is (record {
     children = refl;
     valued = each-passing (λ r. r < length (ranked (vector n entries)).values) rank-here stored-here 0 n (λ c from to stored. (value-here c from to stored).0);
   })

@@ -2,7 +2,7 @@ use Rattle.std.proofs.Common.{◌∙◌, inr, sym, subst}
 use Rattle.sam_cmd.specs.Answers.{ReadsTensors}
 use Rattle.sam_cmd.specs.Steps.{GivesStorages}
 use Rattle.sam_cmd.proofs.AnswerLemmas.{tensor-comes, tensor-wider}
-use Rattle.sam_cmd.proofs.StepLemmas.{first-there, second-there, product-of-stored}
+use Rattle.sam_cmd.proofs.StepLemmas.{product-of-stored}
 use Rattle.sam_cmd.proofs.answer.step.Goals as goal
 
 pub returns-in-Err-storages : goal.returns-in-Err-storages
@@ -28,38 +28,14 @@ returns-in-Err-storages g c = λ words named.
     (g.F.Files.misses c.args.files.now) (g.F.Files.misses c.program.new.files) (g.F.Files.misses c.storages.new.files)
     p.same p.faults p.misses f.tensor c.in-Err-storages.fault f.faulty)
 
-pub get-requires : goal.get-requires
-get-requires g c =
-    let told = g.F.Files.told c.program.new.files in
-    let p = c.in-Ok.program in
-    let read = c.in-Ok.ensures.ok in
-    let stored = c.in-Ok-storages.storages in
-    let gives : GivesStorages told p.tensors stored
-    = subst (λ ts. GivesStorages told ts stored) c.as_slice.ensures c.in-Ok-storages.ensures.ok in
-    first-there p (c.in-Some.left, c.in-Some.right) read.is_accepted (sym c.in-Some.ensures) told stored gives
-
-pub get-requires-2 : goal.get-requires-2
-get-requires-2 g c =
-    let told = g.F.Files.told c.program.new.files in
-    let p = c.in-Ok.program in
-    let read = c.in-Ok.ensures.ok in
-    let stored = c.in-Ok-storages.storages in
-    let gives : GivesStorages told p.tensors stored
-    = subst (λ ts. GivesStorages told ts stored) c.as_slice.ensures c.in-Ok-storages.ensures.ok in
-    second-there p (c.in-Some.left, c.in-Some.right) read.is_accepted (sym c.in-Some.ensures) told stored gives
-
 pub product_text-requires : goal.product_text-requires
 product_text-requires g c =
     let told = g.F.Files.told c.program.new.files in
     let p = c.in-Ok.program in
-    let read = c.in-Ok.ensures.ok in
     let stored = c.in-Ok-storages.storages in
     let gives : GivesStorages told p.tensors stored
-    = subst (λ ts. GivesStorages told ts stored) c.as_slice.ensures c.in-Ok-storages.ensures.ok in (
-      gives.entries,
-      product-of-stored p (c.in-Some.left, c.in-Some.right) read.is_accepted (sym c.in-Some.ensures) told stored gives
-          c.get.result.now c.get-2.result.now c.get.ensures c.get-2.ensures,
-    )
+    = subst (λ ts. GivesStorages told ts stored) c.as_slice.ensures c.in-Ok-storages.ensures.ok in
+    (gives.entries, rw c.as_slice-2.ensures (product-of-stored p c.in-Some.left c.in-Some.right c.in-Ok.ensures.ok.is_accepted (sym c.in-Some.ensures) told stored gives))
 
 pub returns-in-Ok-product_text : goal.returns-in-Ok-product_text
 returns-in-Ok-product_text g c = λ words named.
@@ -82,6 +58,5 @@ returns-in-Ok-product_text g c = λ words named.
       tensors_read = subst (λ m. ReadsTensors m p.tensors gives.entries) same gives.reads;
       is_text =
           c.in-Ok-product_text.ensures gives.entries
-          (product-of-stored p (c.in-Some.left, c.in-Some.right) read.is_accepted (sym c.in-Some.ensures) told stored gives
-          c.get.result.now c.get-2.result.now c.get.ensures c.get-2.ensures);
+          (rw c.as_slice-2.ensures (product-of-stored p c.in-Some.left c.in-Some.right read.is_accepted (sym c.in-Some.ensures) told stored gives));
     })
