@@ -7,3 +7,4 @@ pub mod Stepping
 pub mod Putting
 pub mod Turns
 pub mod Stalling
+pub mod Laying

@@ -1,3 +1,4 @@
+pub mod Capacity
 pub mod Held
 pub mod Routes
 pub mod NetOf

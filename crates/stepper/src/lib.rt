@@ -7,5 +7,5 @@ mod queue;
 mod routes;
 mod tap;
 
-pub use machine::{Ending, Machine, Stepped};
+pub use machine::{Capacities, Ending, Machine, Stepped};
 pub use tap::{KeepAll, NoTap, Tap};
