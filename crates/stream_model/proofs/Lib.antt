@@ -1,0 +1,3 @@
+mod Spaced
+mod Rows
+mod Worked
