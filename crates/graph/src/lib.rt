@@ -22,3 +22,6 @@ pub fn streams_are_given()
 pub fn only_whole_streams()
     ensures { OnlyWholeStreams }
 {}
+
+#[cfg(test)]
+mod tests;

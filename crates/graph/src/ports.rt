@@ -5,6 +5,10 @@ ghost use Rattle.block_core.specs.Kind.{ins_of, outs_of};
 ghost use Rattle.graph.specs.Meaning.{meaning};
 ghost use Rattle.graph.specs.Wiring.{block, channel};
 
+use crate::graphs::Kind::{
+    Add, Array, Cast, Const, Drain, DropFiber, DropValue, Fill, Intersect, Mul, Repeat, Root, Scan,
+    Sub, SumMatrix, SumScalar, SumVector, Union, WriteLevel, WriteValue,
+};
 use crate::graphs::{Block, Channel, Graph, Kind};
 
 impl Kind {
@@ -13,20 +17,15 @@ impl Kind {
         ensures { result ≡ ins_of (meaning [] self.now) }
     {
         match *self {
-            Kind::Root => 0,
-            Kind::Scan { .. }
-            | Kind::Cast { .. }
-            | Kind::Drain
-            | Kind::Array { .. }
-            | Kind::Const { .. } => 1,
-            Kind::WriteLevel { .. } | Kind::WriteValue => 1,
-            Kind::Repeat | Kind::Mul | Kind::Add | Kind::Sub => 2,
-            Kind::SumScalar | Kind::SumVector | Kind::DropValue | Kind::DropFiber => 2,
-            Kind::SumMatrix => 3,
-            Kind::Intersect { left, right } | Kind::Union { left, right } => u64::from(left)
-                + u64::from(right)
-                + 2,
-            Kind::Fill { payloads } => u64::from(payloads) + 2,
+            Root => 0,
+            Scan { .. } | Cast { .. } | Drain | Array { .. } | Const { .. } => 1,
+            WriteLevel { .. } | WriteValue => 1,
+            Repeat | Mul | Add | Sub | SumScalar | SumVector | DropValue | DropFiber => 2,
+            SumMatrix => 3,
+            Intersect { left, right } | Union { left, right } => {
+                u64::from(left) + u64::from(right) + 2
+            }
+            Fill { payloads } => u64::from(payloads) + 2,
         }
     }
 
@@ -35,16 +34,15 @@ impl Kind {
         ensures { result ≡ outs_of (meaning [] self.now) }
     {
         match *self {
-            Kind::Drain | Kind::WriteLevel { .. } | Kind::WriteValue => 0,
-            Kind::Root | Kind::Repeat | Kind::Array { .. } | Kind::Const { .. } => 1,
-            Kind::Mul | Kind::Add | Kind::Sub | Kind::SumScalar => 1,
-            Kind::Scan { .. } | Kind::SumVector | Kind::DropValue | Kind::DropFiber => 2,
-            Kind::SumMatrix => 3,
-            Kind::Cast { outs } => u64::from(outs),
-            Kind::Intersect { left, right } | Kind::Union { left, right } => u64::from(left)
-                + u64::from(right)
-                + 1,
-            Kind::Fill { payloads } => u64::from(payloads) + 1,
+            Drain | WriteLevel { .. } | WriteValue => 0,
+            Root | Repeat | Array { .. } | Const { .. } | Mul | Add | Sub | SumScalar => 1,
+            Scan { .. } | SumVector | DropValue | DropFiber => 2,
+            SumMatrix => 3,
+            Cast { outs } => u64::from(outs),
+            Intersect { left, right } | Union { left, right } => {
+                u64::from(left) + u64::from(right) + 1
+            }
+            Fill { payloads } => u64::from(payloads) + 1,
         }
     }
 }
