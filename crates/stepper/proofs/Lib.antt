@@ -8,3 +8,4 @@ pub mod Putting
 pub mod Turns
 pub mod Stalling
 pub mod Laying
+pub mod GraphLaws

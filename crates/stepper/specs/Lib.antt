@@ -7,3 +7,4 @@ pub mod Told
 pub mod Steps
 pub mod Runs
 pub mod Endings
+pub mod Laws
