@@ -7,3 +7,5 @@ pub mod Stepping
 pub mod Putting
 pub mod Turns
 pub mod Stalling
+pub mod Laying
+pub mod GraphLaws

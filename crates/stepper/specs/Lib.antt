@@ -1,3 +1,4 @@
+pub mod Capacity
 pub mod Held
 pub mod Routes
 pub mod NetOf
@@ -6,3 +7,4 @@ pub mod Told
 pub mod Steps
 pub mod Runs
 pub mod Endings
+pub mod Laws

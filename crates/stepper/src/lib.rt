@@ -2,10 +2,14 @@
 #![tactic(auto)]
 
 mod at;
+mod laws;
 mod machine;
 mod queue;
 mod routes;
 mod tap;
 
-pub use machine::{Ending, Machine, Stepped};
+pub use laws::{
+    all_is_sent, always_part_way, graphs_are_wired, more_room_never_hurts, move_count, one_end, queues_are_part, room_suffices,
+};
+pub use machine::{Capacities, Ending, Machine, Stepped};
 pub use tap::{KeepAll, NoTap, Tap};

@@ -1,10 +1,20 @@
 //! The machine.
 
-ghost use Rattle.std.specs.Prelude.{◌≡◌, ◌<◌};
+ghost use Rattle.std.specs.Prelude.{◌≡◌, ◌<◌, ◌^◌, List, length, IfOk};
+ghost use Rattle.sam_model.specs.Children.{Ranked};
+ghost use Rattle.graph.specs.Wiring.{WellFormed};
+ghost use Rattle.graph.specs.WholeStreams.{Consistent};
+ghost use Rattle.graph.specs.Standing.{StandAt, at_start};
+ghost use Rattle.plays.specs.Net.{start};
+ghost use Rattle.stepper.specs.Capacity.{CapacitiesFor};
+ghost use Rattle.stepper.specs.AtState.{AtState};
 
-use crate::queue::Queue;
+use crate::queue::{Queue, queues_for};
 use crate::routes::Plan;
 use block_core::BlockStep;
+use graph::Graph;
+use sam_base::Items;
+use std::alloc::{AllocError, Global};
 use std::marker::Model;
 
 mod finish;
@@ -12,6 +22,12 @@ mod play;
 mod step;
 
 pub use finish::Ending;
+
+/// How many tokens may wait on each channel, if there is a limit.
+#[derive(Debug, Drop)]
+pub struct Capacities {
+    pub each: Items<Option<u32>>,
+}
 
 /// What a step did.
 #[derive(Clone, Copy, Debug, Drop, PartialEq, Eq)]
@@ -46,6 +62,29 @@ impl<B: BlockStep> Model for Machine<B> {
 }
 
 impl<B: BlockStep + Drop> Machine<B> {
+    /// A machine before the first event, of a graph that is well formed and consistent, with its own blocks at their
+    /// starts. Queues with a capacity take their memory here.
+    pub fn new(alloc: Global, g: &Graph, blocks: Vec<B>, caps: &Capacities) -> Result<Machine<B>, AllocError>
+        requires formed { WellFormed g.now }
+        requires few_blocks { length g.now.blocks < 2 ^ 32 }
+        requires few_channels { length g.now.channels < 2 ^ 32 }
+        requires capacities { CapacitiesFor (length g.now.channels) caps.now.each }
+        requires own { ∥ ((storages : List Ranked) × Consistent storages g.now × StandAt B.kind B.stands storages g.now at_start blocks.items) ∥₁ }
+        ensures starts { IfOk result (λ machine. (storages : List Ranked) → Consistent storages g.now → StandAt B.kind B.stands storages g.now at_start blocks.items → AtState B.kind B.stands storages g.now caps.now.each start machine) }
+        ensures same_blocks { IfOk result (λ machine. machine.blocks ≡ blocks.items) }
+        ensures queues { IfOk result (λ machine. length machine.queues ≡ length g.now.channels) }
+        ensures no_event { IfOk result (λ machine. machine.moves ≡ 0) }
+    {
+        let queues = queues_for(alloc, &caps.each)?;
+        let plan = Plan::new(alloc, g)?;
+        Ok(Machine {
+            blocks,
+            queues,
+            moves: 0,
+            plan,
+        })
+    }
+
     /// The number of events so far.
     pub fn moves(&self) -> u64
         ensures { result ≡ self.now.moves }

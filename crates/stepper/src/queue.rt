@@ -1,8 +1,10 @@
 //! What waits on a channel.
 
-ghost use Rattle.std.specs.Prelude.{◌≡◌, ◌<◌, ◌-◌, [], ◌∷◌, ◌++◌, length, take, drop, slice_get, not, true, Some, None, IsOk, IsSome, IfOk, OnOk, OnErr};
+ghost use Rattle.std.specs.Prelude.{◌≡◌, ◌<◌, ◌-◌, ℕ, [], ◌∷◌, ◌++◌, length, take, drop, slice_get, get_or, not, true, Some, None, IsOk, IsSome, IfOk, OnOk, OnErr};
 ghost use Rattle.plays.specs.Net.{has_room};
+ghost use Rattle.stepper.specs.Held.{Queued};
 
+use sam_base::Items;
 use std::alloc::{AllocError, Global};
 use std::collections::VecDeque;
 use std::marker::Model;
@@ -98,4 +100,16 @@ impl Queue {
     {
         let _back = self.tokens.pop_back();
     }
+}
+
+/// A queue for each channel, under these limits.
+pub(crate) fn queues_for(alloc: Global, rooms: &Items<Option<u32>>) -> Result<Vec<Queue>, AllocError>
+    ensures number { IfOk result (λ queues. length queues.items ≡ length rooms.now) }
+    ensures empty { IfOk result (λ queues. (c : ℕ) (q : Queued) → slice_get queues.items c ≡ Some q → (q.tokens ≡ []) × (q.room ≡ get_or rooms.now c None)) }
+{
+    let mut queues = Vec::new(alloc);
+    for room in rooms.as_slice() {
+        queues.push(Queue::new(alloc, *room)?)?;
+    }
+    Ok(queues)
 }

@@ -1,10 +1,16 @@
-//! Where the ports of each block lead.
+//! Where the ports of each block lead, and the order in which blocks are visited.
 
-ghost use Rattle.std.specs.Prelude.{◌≡◌, ◌<◌, ◌+◌, length, get_or};
+ghost use Rattle.std.specs.Prelude.{◌≡◌, ◌<◌, ◌+◌, ◌^◌, [], ◌∷◌, ◌++◌, length, get_or, All, IfOk};
+ghost use Rattle.graph.specs.Wiring.{WellFormed};
 ghost use Rattle.stepper.specs.Held.{at_port};
-ghost use Rattle.stepper.specs.Routes.{table_of};
+ghost use Rattle.stepper.specs.Routes.{table_of, routes_of};
+ghost use Rattle.stepper.specs.AtState.{Routed};
 
-/// The channels at the ports of all blocks, one after another.
+use graph::{Graph, forward_order};
+use sam_base::Nums;
+use std::alloc::{AllocError, Global};
+
+/// The channels at the ports of all blocks, one after another, and the place of each block's first.
 #[derive(Drop)]
 pub(crate) struct Ports {
     first: Vec<usize>,
@@ -12,6 +18,30 @@ pub(crate) struct Ports {
 }
 
 impl Ports {
+    /// The ports of no block.
+    fn new(alloc: Global) -> Ports
+        ensures first { result.first.items ≡ [] }
+        ensures channels { result.channels.items ≡ [] }
+    {
+        Ports {
+            first: Vec::new(alloc),
+            channels: Vec::new(alloc),
+        }
+    }
+
+    /// Appends a block with its channels in port order.
+    fn push(&mut self, channels: &Nums) -> Result<(), AllocError>
+        requires { All (λ c. c < 2 ^ 32) channels.now }
+        ensures first { IfOk result (λ _. self.new.first.items ≡ self.old.first.items ++ length self.old.channels.items ∷ []) }
+        ensures channels { IfOk result (λ _. self.new.channels.items ≡ self.old.channels.items ++ channels.now) }
+    {
+        self.first.push(self.channels.len())?;
+        for channel in channels.as_slice() {
+            self.channels.push(*channel as u32)?;
+        }
+        Ok(())
+    }
+
     /// The channel at a port of a block.
     #[inline]
     pub(crate) fn at(&self, block: usize, port: u32) -> u32
@@ -23,10 +53,28 @@ impl Ports {
     }
 }
 
-/// The channels at the inputs and at the outputs, and the order in which blocks are visited.
+/// The channels at the inputs and at the outputs of the blocks, and the order in which these are visited.
 #[derive(Drop)]
 pub(crate) struct Plan {
     pub(crate) ins: Ports,
     pub(crate) outs: Ports,
     pub(crate) order: Vec<u32>,
+}
+
+impl Plan {
+    pub(crate) fn new(alloc: Global, g: &Graph) -> Result<Plan, AllocError>
+        requires formed { WellFormed g.now }
+        requires few_blocks { length g.now.blocks < 2 ^ 32 }
+        requires few_channels { length g.now.channels < 2 ^ 32 }
+        ensures { IfOk result (λ plan. Routed g.now (routes_of plan)) }
+    {
+        let mut ins = Ports::new(alloc);
+        let mut outs = Ports::new(alloc);
+        for block in g.blocks.as_slice() {
+            ins.push(&block.ins)?;
+            outs.push(&block.outs)?;
+        }
+        let order = forward_order(alloc, g)?;
+        Ok(Plan { ins, outs, order })
+    }
 }

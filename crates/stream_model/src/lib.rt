@@ -2,5 +2,7 @@
 #![tactic(auto)]
 
 mod labels;
+mod texts;
 
 pub use labels::{Attr, Label, Side, Tree};
+pub use texts::label_text;

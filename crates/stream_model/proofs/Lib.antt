@@ -1,0 +1,5 @@
+mod Spaced
+mod Rows
+mod Worked
+pub mod Grown
+pub mod Streams

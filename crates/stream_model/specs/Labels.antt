@@ -1,0 +1,130 @@
+-- The stream that a label names.
+use Rattle.std.specs.Prelude.{ℕ, zero, suc, ◌/◌, ◌%◌, Bool, true, false, cond, List, [], ◌∷◌, length, take, eqb, Some, None}
+use mathlib.Core.List.{map}
+use Rattle.sam_model.specs.declared.tensors.Entries.{Entries}
+use Rattle.sam_model.specs.declared.program.Program.{Program}
+use Rattle.sam_model.specs.Lists.{items_at}
+use Rattle.sam_model.specs.Tensors.{value_at, rank_of}
+use Rattle.sam_model.specs.Denote.{Loop}
+use Rattle.stream_tokens.specs.declared.Token.{Token}
+use Rattle.stream_tokens.specs.Nest.{Leaf, nmap, Fiber, stream}
+use Rattle.stream_tokens.specs.Shapes.{on_tokens}
+use Rattle.stream_model.specs.declared.labels.Side.{Side}
+use Rattle.stream_model.specs.declared.labels.Tree.{Tree}
+use Rattle.stream_model.specs.declared.labels.Tree.TheVariants.{Root, Product, Reduced, Joined, Beside}
+use Rattle.stream_model.specs.declared.labels.Attr.{Attr}
+use Rattle.stream_model.specs.declared.labels.Attr.TheVariants.{Coordinate, Rank, FactorValue, Partial, Whole, Value, Present, SideValue, Literal}
+use Rattle.stream_model.specs.declared.labels.Label.{Label}
+use Rattle.stream_model.specs.Grow.{paths, path_fibers}
+use Rattle.stream_model.specs.Terms.{TermData, Summand, restricted, access_at, partial, whole, summands, summand_at, no_term}
+use Rattle.stream_model.specs.Trees.{in_product, in_pruned, value_reduced, reduced_sizes}
+use Rattle.stream_model.specs.Joins.{Part, joined, side_part, in_beside}
+
+-- A tree and what can be told of its prefixes: the test and the sizes that it grows by, its depth, the term that its
+-- factors are of, and the values of the tree and of the sides that it joins.
+pub record Shape : Type 0 where
+  pub ok : List ℕ → Bool
+  pub sizes : List ℕ
+  pub depth : ℕ
+  pub term : TermData
+  pub value : List ℕ → Leaf
+  pub sides : Side → Part
+
+abbrev pub no_part : Part
+no_part = record { has = λ _. false; value = λ _. None }
+
+-- ---- the shape of each tree
+
+-- whether bit f of a number is set, for each f below n
+abbrev pub bits : ℕ → ℕ → List Bool
+bits zero mask = []
+bits (suc n) mask = eqb (mask % 2) 1 ∷ bits n (mask / 2)
+
+abbrev pub loop_sizes : List Loop → List ℕ
+loop_sizes loops = map (λ l. l.0) loops
+
+abbrev pub root_shape : Shape
+root_shape = record { ok = λ _. true; sizes = []; depth = 0; term = no_term; value = λ _. None; sides = λ _. no_part }
+
+abbrev pub product_shape : TermData → ℕ → List Bool → Shape
+product_shape t level mask = record {
+  ok = in_product t level mask;
+  sizes = loop_sizes t.loops;
+  depth = level;
+  term = t;
+  value = λ _. None;
+  sides = λ _. no_part;
+}
+
+abbrev pub reduced_shape : TermData → ℕ → ℕ → ℕ → Shape
+reduced_shape t gone prune depth = record {
+  ok = in_pruned t gone prune;
+  sizes = reduced_sizes t gone;
+  depth = depth;
+  term = t;
+  value = value_reduced t gone;
+  sides = λ _. no_part;
+}
+
+-- the sizes of the result's levels
+abbrev pub result_sizes : Program → List ℕ
+result_sizes p = items_at p.result.dims p.result.order
+
+abbrev pub joined_shape : List ℕ → List Summand → ℕ → ℕ → Shape
+joined_shape sizes ss last depth = record {
+  ok = (joined ss last).has;
+  sizes = sizes;
+  depth = depth;
+  term = no_term;
+  value = (joined ss last).value;
+  sides = side_part ss last;
+}
+
+abbrev pub beside_shape : List ℕ → List Summand → ℕ → Side → ℕ → Shape
+beside_shape sizes ss last side depth = record {
+  ok = in_beside ss last side depth;
+  sizes = sizes;
+  depth = depth;
+  term = no_term;
+  value = (side_part ss last side).value;
+  sides = side_part ss last;
+}
+
+abbrev pub term_at : Program → List Entries → ℕ → TermData
+term_at p es n = (summand_at (summands p es) n).term
+
+abbrev pub shape_of : Program → List Entries → Tree → Shape
+shape_of p es Root = root_shape
+shape_of p es (Product term level mask) = let t = term_at p es term in product_shape t level (bits (length t.accesses) mask)
+shape_of p es (Reduced term gone prune depth) = reduced_shape (term_at p es term) gone prune depth
+shape_of p es (Joined last depth) = joined_shape (result_sizes p) (summands p es) last depth
+shape_of p es (Beside last side depth) = beside_shape (result_sizes p) (summands p es) last side depth
+
+-- ---- what is told of a prefix
+
+abbrev pub last : List ℕ → ℕ
+last [] = 0
+last (c ∷ []) = c
+last (c ∷ d ∷ p) = last (d ∷ p)
+
+abbrev pub token : Shape → Attr → List ℕ → Leaf
+token s Coordinate p = Some (last p)
+token s (Rank f) p = let a = access_at s.term.accesses f in Some (rank_of a.tensor (restricted a p))
+token s (FactorValue f) p = let a = access_at s.term.accesses f in Some (value_at a.tensor (restricted a p))
+token s (Partial k) p = Some (partial (take k s.term.accesses) p)
+token s Whole p = Some (whole s.term p)
+token s Value p = s.value p
+token s (Present side) p = cond ((s.sides side).has p) (Some 1) None
+token s (SideValue side) p = (s.sides side).value p
+token s (Literal n) p = Some n
+
+-- the stream of the tree of a shape, and the same as fibers
+abbrev pub stream_at : Shape → Attr → List Token
+stream_at s a = stream s.depth (nmap {A = List ℕ} {B = Leaf} s.depth (token s a) (paths s.ok s.sizes s.depth))
+
+abbrev pub fibers_at : Shape → Attr → List (Fiber Leaf)
+fibers_at s a = on_tokens (token s a) (path_fibers s.ok s.sizes s.depth)
+
+-- the stream of a label, for a program over these entries
+abbrev pub label_stream : Program → List Entries → Label → List Token
+label_stream p es l = stream_at (shape_of p es l.tree) l.attr

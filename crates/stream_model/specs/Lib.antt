@@ -1,0 +1,6 @@
+pub mod Grow
+pub mod Terms
+pub mod Trees
+pub mod Joins
+pub mod Labels
+pub mod Texts

@@ -1,0 +1,185 @@
+//! Labels as text.
+
+ghost use Rattle.std.specs.Prelude.{◌≡◌, ◌++◌, decimal, IfOk, OnOk, [], ◌∷◌};
+ghost use Rattle.stream_model.specs.Texts.{side_text, spaced, tree_text, attr_text, text_of_label};
+
+use crate::labels::{Attr, Label, Side, Tree};
+use itoa::Buffer;
+use sam_base::Name;
+use std::alloc::{AllocError, Global};
+
+fn side_word(side: Side) -> &'static str
+    ensures { result.now ≡ side_text side }
+{
+    match side {
+        Side::Left => "left",
+        Side::Right => "right",
+    }
+}
+
+fn word(text: &mut Name, word: &str) -> Result<(), AllocError>
+    ensures { OnOk result (text.new ≡ text.old ++ word.now) }
+{
+    text.append(word.as_bytes())
+}
+
+/// Appends a space and a number.
+fn number(text: &mut Name, n: u64) -> Result<(), AllocError>
+    ensures { OnOk result (text.new ≡ text.old ++ 32 ∷ decimal n) }
+{
+    text.push(b' ')?;
+    let mut digits = Buffer::new();
+    text.append(digits.format(n).as_bytes())
+}
+
+/// Appends numbers, each after a space.
+fn numbers(text: &mut Name, ns: &[u8]) -> Result<(), AllocError>
+    ensures { OnOk result (text.new ≡ text.old ++ spaced ns.now) }
+{
+    for &n in ns {
+        number(text, u64::from(n))?;
+    }
+    Ok(())
+}
+
+fn append_tree(text: &mut Name, tree: Tree) -> Result<(), AllocError>
+    ensures { OnOk result (text.new ≡ text.old ++ tree_text tree) }
+{
+    match tree {
+        Tree::Root => word(text, "root"),
+        Tree::Product { term, level, mask } => {
+            word(text, "product")?;
+            numbers(text, &[term, level, mask])
+        }
+        Tree::Reduced {
+            term,
+            gone,
+            prune,
+            depth,
+        } => {
+            word(text, "reduced")?;
+            numbers(text, &[term, gone, prune, depth])
+        }
+        Tree::Joined { last, depth } => {
+            word(text, "joined")?;
+            numbers(text, &[last, depth])
+        }
+        Tree::Beside { last, side, depth } => {
+            word(text, "beside")?;
+            number(text, u64::from(last))?;
+            text.push(b' ')?;
+            word(text, side_word(side))?;
+            number(text, u64::from(depth))
+        }
+    }
+}
+
+fn append_attr(text: &mut Name, attr: Attr) -> Result<(), AllocError>
+    ensures { OnOk result (text.new ≡ text.old ++ attr_text attr) }
+{
+    match attr {
+        Attr::Coordinate => word(text, "coordinate"),
+        Attr::Rank(f) => {
+            word(text, "rank")?;
+            number(text, u64::from(f))
+        }
+        Attr::FactorValue(f) => {
+            word(text, "factor")?;
+            number(text, u64::from(f))
+        }
+        Attr::Partial(k) => {
+            word(text, "partial")?;
+            number(text, u64::from(k))
+        }
+        Attr::Whole => word(text, "whole"),
+        Attr::Value => word(text, "value"),
+        Attr::Present(side) => {
+            word(text, "present ")?;
+            word(text, side_word(side))
+        }
+        Attr::SideValue(side) => {
+            word(text, "value ")?;
+            word(text, side_word(side))
+        }
+        Attr::Literal(n) => {
+            word(text, "literal")?;
+            number(text, n)
+        }
+    }
+}
+
+/// The words and numbers of the tree, then those of the attribute, with single spaces. The root has no attribute in its
+/// text.
+pub fn label_text(alloc: Global, l: &Label) -> Result<Name, AllocError>
+    ensures { IfOk result (λ text. text ≡ text_of_label l.now) }
+{
+    let mut text = Name::new(alloc);
+    append_tree(&mut text, l.tree)?;
+    if l.tree != Tree::Root {
+        text.push(b' ')?;
+        append_attr(&mut text, l.attr)?;
+    }
+    Ok(text)
+}
+
+#[cfg(test)]
+mod tests {
+    use super::label_text;
+    use crate::Attr::{
+        Coordinate, FactorValue, Literal, Partial, Present, Rank, SideValue, Value, Whole,
+    };
+    use crate::Label;
+    use crate::Side::{Left, Right};
+    use crate::Tree::{Beside, Joined, Product, Reduced, Root};
+    use std::alloc::AllocError;
+
+    #[test]
+    fn each_tree_and_each_attribute(rt: HostRuntime) -> Result<(), AllocError> {
+        let product = Product {
+            term: 0,
+            level: 2,
+            mask: 3,
+        };
+        let reduced = Reduced {
+            term: 1,
+            gone: 2,
+            prune: 9,
+            depth: 0,
+        };
+        let joined = Joined { last: 15, depth: 8 };
+        let left = Beside {
+            last: 1,
+            side: Left,
+            depth: 2,
+        };
+        let right = Beside {
+            last: 255,
+            side: Right,
+            depth: 1,
+        };
+        let rows: [(crate::Tree, crate::Attr, &[u8]); 13] = [
+            (Root, Literal(0), b"root"),
+            (product, Coordinate, b"product 0 2 3 coordinate"),
+            (product, Rank(1), b"product 0 2 3 rank 1"),
+            (product, FactorValue(7), b"product 0 2 3 factor 7"),
+            (product, Partial(8), b"product 0 2 3 partial 8"),
+            (product, Whole, b"product 0 2 3 whole"),
+            (reduced, Value, b"reduced 1 2 9 0 value"),
+            (
+                reduced,
+                Literal(u64::MAX),
+                b"reduced 1 2 9 0 literal 18446744073709551615",
+            ),
+            (joined, Present(Left), b"joined 15 8 present left"),
+            (joined, Present(Right), b"joined 15 8 present right"),
+            (joined, SideValue(Left), b"joined 15 8 value left"),
+            (left, Value, b"beside 1 left 2 value"),
+            (right, SideValue(Right), b"beside 255 right 1 value right"),
+        ];
+        for (tree, attr, text) in rows {
+            let told = label_text(rt.alloc(), &Label { tree, attr })?;
+            assert_eq!(rt; told.as_bytes(), text);
+        }
+        Ok(())
+    }
+}
