@@ -1,6 +1,7 @@
 pub mod AnswerLemmas
 pub mod Denoted
 pub mod OneFiber
+pub mod OneRefusal
 pub mod Reading
 pub mod ReportLemmas
 pub mod ServedLemmas
