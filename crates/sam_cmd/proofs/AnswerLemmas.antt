@@ -1,6 +1,6 @@
 -- How the faults of single steps are those of a command.
-use Rattle.std.proofs.Common.{◌≡◌, ℕ, ◌≤◌, ◌<◌, inl, inr, List, length, refl, sym, subst, ◌∙◌, arith}
-use Rattle.std.specs.Prelude.{◌⊎◌, Option, Some, Ok, Err}
+use Rattle.std.proofs.Common.{◌≡◌, ℕ, ◌≤◌, ◌<◌, inl, inr, List, length, refl, sym, subst, arith}
+use Rattle.std.specs.Prelude.{◌⊎◌, Option, Ok, Err}
 use Rattle.sam_base.specs.declared.faults.Fault.{Fault}
 use Rattle.sam_base.specs.declared.faults.Fault.TheVariants.{Usage, Missing, ReadFault, Program, Schedule, TooManyBlocks, NoSuchChannel, Tensor, Stalled, WriteFault, OutOfMemory, NotBuilt}
 use Rattle.sam_base.specs.declared.faults.TnsKind.TheVariants.{TooManyPositions}
@@ -11,54 +11,18 @@ use Rattle.sam_model.specs.declared.tensors.Tensor.{Tensor as TensorType}
 use Rattle.sam_model.specs.declared.tensors.Entries.{Entries}
 use Rattle.sam_model.specs.Tensors.{entry_list, stored_as, stored_prefixes}
 use Rattle.tns_io.specs.Entries.{tns_entries}
-use Rattle.sam_cmd.specs.declared.command.Command.{Command}
-use Rattle.sam_cmd.specs.Commands.{command_of, file_of, ReadsCommand}
-use Rattle.sam_cmd.specs.Answers.{FilesSpan, ReadsFile, ComesTo, RefusesProgram, RefusesTensor, Comes}
-use Rattle.sam_cmd.specs.Steps.{ProgramFault, TensorFault}
-
--- words that ask for nothing
-pub words-come : (words : List (List ℕ)) (files : FilesSpan) (fault : Fault) → ReadsCommand words (Err fault) → Comes words files (Err fault)
-words-come words files Usage fault = fault
-words-come words files OutOfMemory fault = tt
-words-come words files (Missing name) fault = absurd fault
-words-come words files (ReadFault name) fault = absurd fault
-words-come words files (Program kind line) fault = absurd fault
-words-come words files (Schedule line) fault = absurd fault
-words-come words files (TooManyBlocks blocks) fault = absurd fault
-words-come words files (NoSuchChannel channel) fault = absurd fault
-words-come words files (Tensor name kind line) fault = absurd fault
-words-come words files (Stalled blocks) fault = absurd fault
-words-come words files WriteFault fault = absurd fault
-words-come words files NotBuilt fault = absurd fault
-
--- the fault of a program file is that of the command that names it
-pub program-comes :
-    (words : List (List ℕ)) (files : FilesSpan) (command : Command) (name : List ℕ) (fault : Fault) →
-    command_of words ≡ Some command → name ≡ file_of command → ProgramFault files name fault → Comes words files (Err fault)
-program-comes words files command name (Missing missed) is file fault =
-    (inl (command, is, fault.0 ∙ file), fault.1, subst (λ n. Lacks files.told n) (sym fault.0) fault.2)
-program-comes words files command name (ReadFault failed) is file fault = (inl (command, is, fault.0 ∙ file), fault.1)
-program-comes words files command name (Program kind line) is file fault =
-    (command, is, subst (λ n. RefusesProgram files.told n kind line) file fault)
-program-comes words files command name OutOfMemory is file fault = tt
-program-comes words files command name (Tensor tensor kind line) is file fault = absurd fault
-program-comes words files command name NotBuilt is file fault = absurd fault
-program-comes words files command name Usage is file fault = absurd fault
-program-comes words files command name (Schedule line) is file fault = absurd fault
-program-comes words files command name (TooManyBlocks blocks) is file fault = absurd fault
-program-comes words files command name (NoSuchChannel channel) is file fault = absurd fault
-program-comes words files command name (Stalled blocks) is file fault = absurd fault
-program-comes words files command name WriteFault is file fault = absurd fault
+use Rattle.sam_cmd.specs.Answers.{FilesSpan, ReadsFile, ComesTo, RefusesTensor, Comes}
+use Rattle.sam_cmd.specs.Steps.{TensorFault}
 
 -- the fault of a tensor is that of the command that comes to it
 pub tensor-comes :
     (words : List (List ℕ)) (files : FilesSpan) (t : TensorType) (fault : Fault) → ComesTo words files.told t →
     TensorFault files t fault → Comes words files (Err fault)
 tensor-comes words files t (Missing name) comes fault =
-    (inr (t, fault.0, comes), fault.1, subst (λ n. Lacks files.told n) (sym fault.0) fault.2)
+    ((inr (t, fault.0, comes), subst (λ n. Lacks files.told n) (sym fault.0) fault.2), fault.1)
 tensor-comes words files t (ReadFault name) comes fault = (inr (t, fault.0, comes), fault.1)
-tensor-comes words files t (Tensor name kind line) comes fault = (t, fault.0, comes, fault.1)
-tensor-comes words files t OutOfMemory comes fault = tt
+tensor-comes words files t (Tensor name kind line) comes fault = ((t, fault.0, comes, fault.1), tt)
+tensor-comes words files t OutOfMemory comes fault = (tt, tt)
 tensor-comes words files t NotBuilt comes fault = absurd fault
 tensor-comes words files t Usage comes fault = absurd fault
 tensor-comes words files t (Program kind line) comes fault = absurd fault

@@ -4,6 +4,9 @@ pub mod ProductCarried
 pub mod ProductRun
 pub mod ProductStreams
 pub mod ProductWired
+pub mod OneFiber
+pub mod OneRefusal
+pub mod Reading
 pub mod ReportLemmas
 pub mod ServedLemmas
 pub mod StepLemmas

@@ -14,7 +14,7 @@ reported words files out err status fault comes nothing report =
     let left : Refused report.told_fault out err status = record { is_status = report.is_status; nothing = nothing; said = report.said } in
     elim report.which [
       | inl same ↦ record { answer = Err report.told_fault; comes = subst (λ f. Comes words files (Err f)) (sym same) comes; leaves = left }
-      | inr memory ↦ record { answer = Err report.told_fault; comes = subst (λ f. Comes words files (Err f)) (sym memory) tt; leaves = left }
+      | inr memory ↦ record { answer = Err report.told_fault; comes = subst (λ f. Comes words files (Err f)) (sym memory) (tt, tt); leaves = left }
     ]
 
 -- want of memory has its status, however it is told
@@ -24,4 +24,19 @@ memory-status fault err status memory report =
     elim report.which [
       | inl same ↦ inr (report.is_status ∙ ap status_of (same ∙ memory))
       | inr told ↦ inr (report.is_status ∙ ap status_of told)
+    ]
+
+-- a fault that was reported is said, or that there is no memory
+pub told-fault :
+    (fault due : Fault) (out err : SinkSpan) (status : ℕ) → (fault ≡ due) ⊎ (fault ≡ OutOfMemory) → out.now ≡ out.before →
+    ReportsFault fault err status → Refused due out err status ⊎ Refused OutOfMemory out err status
+told-fault fault due out err status which nothing report =
+    let left : Refused report.told_fault out err status = record { is_status = report.is_status; nothing = nothing; said = report.said } in
+    elim report.which [
+      | inl same ↦
+          elim which [
+            | inl one ↦ inl (subst (λ f. Refused f out err status) (same ∙ one) left)
+            | inr memory ↦ inr (subst (λ f. Refused f out err status) (same ∙ memory) left)
+          ]
+      | inr memory ↦ inr (subst (λ f. Refused f out err status) memory left)
     ]

@@ -1,6 +1,6 @@
 -- What a command that is served can answer.
 use Rattle.std.proofs.Common.{◌≡◌, ℕ, ◌<◌, inl, inr, List, [], ◌∷◌, ◌++◌, length, refl, sym, ap, ◌∙◌, subst, arith}
-use Rattle.std.specs.Prelude.{Option, Some, None, Result, Ok, Err, IsSomeAnd}
+use Rattle.std.specs.Prelude.{◌⊎◌, Option, Some, None, Result, Ok, Err, IsSomeAnd}
 use mathlib.Core.List.{map}
 use Rattle.sam_base.specs.declared.faults.Fault.{Fault}
 use Rattle.sam_base.specs.declared.faults.Fault.TheVariants.{Usage, Missing, ReadFault, Program, Schedule, TooManyBlocks, NoSuchChannel, Tensor, Stalled, WriteFault, OutOfMemory, NotBuilt}
@@ -20,7 +20,7 @@ use Rattle.sam_cmd.specs.declared.command.Command.{Command}
 use Rattle.sam_cmd.specs.declared.command.Command.TheVariants.{Check, Step}
 use Rattle.sam_cmd.specs.Commands.{command_of, file_of}
 use Rattle.sam_cmd.specs.VectorProducts.{vector_product}
-use Rattle.sam_cmd.specs.Answers.{ReadsFile, ReadsProgram, ReadsTensor, ReadsTensors, ComesTo, Opens, IsNotBuilt, RefusesProgram, RefusesTensor, Comes, IsServed}
+use Rattle.sam_cmd.specs.Answers.{ReadsFile, ReadsProgram, ReadsTensor, ReadsTensors, ComesTo, Opens, IsNotBuilt, RefusesProgram, RefusesTensor, Accepts, Computes, Comes, IsServed, IsDue}
 
 some-same : {A : Type 0} (a b : A) → Some a ≡ Some b → a ≡ b
 some-same a b e = cc
@@ -43,15 +43,15 @@ stored-same t d e same =
 
 module _ (m : Told) where
   -- two readings of one file have the same bytes
-  one-text : (name bytes others : List ℕ) → ReadsFile (Some m) name bytes → ReadsFile (Some m) name others → bytes ≡ others
+  pub one-text : (name bytes others : List ℕ) → ReadsFile (Some m) name bytes → ReadsFile (Some m) name others → bytes ≡ others
   one-text name bytes others first second =
       some-same bytes others (sym (first.told_bytes m refl) ∙ second.told_bytes m refl)
 
   -- a file that is read is there, and is no longer than it may be
-  not-lacking : (name bytes : List ℕ) → ReadsFile (Some m) name bytes → bytes_of m name ≡ None → ⊥
+  pub not-lacking : (name bytes : List ℕ) → ReadsFile (Some m) name bytes → bytes_of m name ≡ None → ⊥
   not-lacking name bytes file none = let clash = sym none ∙ file.told_bytes m refl in absurd (cc clash)
 
-  not-longer : (name bytes : List ℕ) → ReadsFile (Some m) name bytes → LongerThan (Some m) name FILE_MOST → ⊥
+  pub not-longer : (name bytes : List ℕ) → ReadsFile (Some m) name bytes → LongerThan (Some m) name FILE_MOST → ⊥
   not-longer name bytes file long = too-long (bytes_of m name) (file.told_bytes m refl) (long m refl)
     where
       too-long : (o : Option (List ℕ)) → o ≡ Some bytes → IsSomeAnd o (λ text. FILE_MOST < length text) → ⊥
@@ -61,11 +61,11 @@ module _ (m : Told) where
           absurd (omega (arith, long, same, file.short))
 
   -- a program file has one program, and isn't refused
-  one-program : (name : List ℕ) (p q : ProgramType) → ReadsProgram (Some m) name p → ReadsProgram (Some m) name q → p ≡ q
+  pub one-program : (name : List ℕ) (p q : ProgramType) → ReadsProgram (Some m) name p → ReadsProgram (Some m) name q → p ≡ q
   one-program name p q first second =
       ok-same p q (sym first.is_program ∙ ap reading (one-text name first.bytes second.bytes first.file second.file) ∙ second.is_program)
 
-  not-refused :
+  pub not-refused :
       (name : List ℕ) (p : ProgramType) (kind : ProgramKind) (line : ℕ) → ReadsProgram (Some m) name p →
       RefusesProgram (Some m) name kind line → ⊥
   not-refused name p kind line reads refuses =
@@ -78,7 +78,7 @@ module _ (m : Told) where
       ]
 
   -- a tensor that is read isn't refused
-  tensor-not-refused :
+  pub tensor-not-refused :
       (t : TensorType) (e : Entries) (kind : TnsKind) (line : ℕ) → ReadsTensor (Some m) t e →
       RefusesTensor (Some m) t kind line → ⊥
   tensor-not-refused t e kind line read refuses =
@@ -160,21 +160,62 @@ module _ (words : List (List ℕ)) (m : Told) where
       (command : Command) → command_of words ≡ Some command → IsServed command m → (fb fn mb mn : ℕ) (fault : Fault) → ¬ Rose fb fn →
       Comes words (record { told = Some m; faults_before = fb; faults_now = fn; misses_before = mb; misses_now = mn }) (Err fault) →
       fault ≡ OutOfMemory
-  served-fault command is served fb fn mb mn Usage none comes = let clash = sym comes ∙ is in absurd (cc clash)
+  served-fault command is served fb fn mb mn Usage none comes = let clash = sym comes.0 ∙ is in absurd (cc clash)
   served-fault command is served fb fn mb mn (Missing name) none comes =
-      absurd (not-opened command is served name comes.0 (comes.2 m refl))
+      absurd (not-opened command is served name comes.0.0 (comes.0.1 m refl))
   served-fault command is served fb fn mb mn (ReadFault name) none comes = absurd (none comes.1)
   served-fault command is served fb fn mb mn (Program kind line) none comes =
-      let same : comes.0 ≡ command = some-same _ _ (sym comes.1 ∙ is) in
+      let same : comes.0.0 ≡ command = some-same _ _ (sym comes.0.1 ∙ is) in
       let read = program-read command served in
-      absurd (not-refused m (file_of command) read.0 kind line read.1 (subst (λ k. RefusesProgram (Some m) (file_of k) kind line) same comes.2))
+      absurd (not-refused m (file_of command) read.0 kind line read.1 (subst (λ k. RefusesProgram (Some m) (file_of k) kind line) same comes.0.2))
   served-fault command is served fb fn mb mn (Tensor name kind line) none comes =
-      let read = comes-read command is served comes.0 comes.2 in
-      absurd (tensor-not-refused m comes.0 read.0 kind line read.1 comes.3)
+      let read = comes-read command is served comes.0.0 comes.0.2 in
+      absurd (tensor-not-refused m comes.0.0 read.0 kind line read.1 comes.0.3)
   served-fault command is served fb fn mb mn OutOfMemory none comes = refl
-  served-fault command is served fb fn mb mn NotBuilt none comes = absurd (not-unbuilt command is served comes)
-  served-fault command is served fb fn mb mn (Schedule line) none comes = absurd comes
-  served-fault command is served fb fn mb mn (TooManyBlocks blocks) none comes = absurd comes
-  served-fault command is served fb fn mb mn (NoSuchChannel channel) none comes = absurd comes
-  served-fault command is served fb fn mb mn (Stalled blocks) none comes = absurd comes
-  served-fault command is served fb fn mb mn WriteFault none comes = absurd comes
+  served-fault command is served fb fn mb mn NotBuilt none comes = absurd (not-unbuilt command is served comes.0)
+  served-fault command is served fb fn mb mn (Schedule line) none comes = absurd comes.0
+  served-fault command is served fb fn mb mn (TooManyBlocks blocks) none comes = absurd comes.0
+  served-fault command is served fb fn mb mn (NoSuchChannel channel) none comes = absurd comes.0
+  served-fault command is served fb fn mb mn (Stalled blocks) none comes = absurd comes.0
+  served-fault command is served fb fn mb mn WriteFault none comes = absurd comes.0
+
+-- no refusal is due where a text is answered
+pub not-due :
+    (words : List (List ℕ)) (m : Told) (text : List ℕ) (fault : Fault) → Accepts words (Some m) text ⊎ Computes words (Some m) text →
+    IsDue words m fault → ⊥
+not-due words m text fault answer due =
+    let command : (command : Command) × (command_of words ≡ Some command) × IsServed command m = elim answer [
+      | inl accepts ↦ (Check accepts.name, accepts.is_command, (accepts.program, accepts.program_read))
+      | inr computes ↦ (
+        Step computes.name,
+        computes.is_command,
+        record {
+          program = computes.program;
+          factors = computes.factors;
+          entries = computes.entries;
+          program_read = computes.program_read;
+          is_product = computes.is_product;
+          tensors_read = computes.tensors_read;
+        },
+      )
+    ] in
+    not-memory fault due (served-fault words m command.0 command.1 command.2 0 0 0 1 fault (λ rose. omega (arith, rose)) (due-comes fault due))
+  where
+    not-memory : (fault : Fault) → IsDue words m fault → fault ≡ OutOfMemory → ⊥
+    not-memory fault due memory = subst (IsDue words m) memory due
+
+    due-comes :
+        (fault : Fault) → IsDue words m fault →
+        Comes words (record { told = Some m; faults_before = 0; faults_now = 0; misses_before = 0; misses_now = 1 }) (Err fault)
+    due-comes Usage due = (due, tt)
+    due-comes (Missing name) due = (due, omega arith)
+    due-comes (Program kind line) due = (due, tt)
+    due-comes NotBuilt due = (due, tt)
+    due-comes (Tensor name kind line) due = (due, tt)
+    due-comes (ReadFault name) due = absurd due
+    due-comes OutOfMemory due = absurd due
+    due-comes (Schedule line) due = absurd due
+    due-comes (TooManyBlocks blocks) due = absurd due
+    due-comes (NoSuchChannel channel) due = absurd due
+    due-comes (Stalled blocks) due = absurd due
+    due-comes WriteFault due = absurd due

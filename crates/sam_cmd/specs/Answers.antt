@@ -135,24 +135,33 @@ pub record Computes (words : List (List ℕ)) (told : Option Told) (text : List 
   pub tensors_read : ReadsTensors told program.tensors entries
   pub is_text : text ≡ result_text program entries
 
+-- what must hold where a command is refused so; want of memory may come at any time
+abbrev pub Cause : List (List ℕ) → Option Told → Fault → Type 0
+Cause words told Usage = command_of words ≡ None
+Cause words told (Missing name) = Opens words told name × Lacks told name
+Cause words told (ReadFault name) = Opens words told name
+Cause words told (Program kind line) =
+    (command : Command) × (command_of words ≡ Some command) × RefusesProgram told (file_of command) kind line
+Cause words told NotBuilt = IsNotBuilt words told
+Cause words told (Tensor name kind line) =
+    (t : TensorType) × (name ≡ t.file) × ComesTo words told t × RefusesTensor told t kind line
+Cause words told OutOfMemory = Unit {0}
+Cause words told (Schedule line) = ⊥
+Cause words told (TooManyBlocks blocks) = ⊥
+Cause words told (NoSuchChannel channel) = ⊥
+Cause words told (Stalled blocks) = ⊥
+Cause words told WriteFault = ⊥
+
+-- the count that rose with it in this call
+abbrev pub Counted : FilesSpan → Fault → Type 0
+Counted files (Missing name) = Rose files.misses_before files.misses_now
+Counted files (ReadFault name) = Rose files.faults_before files.faults_now
+Counted files fault = Unit {0}
+
 -- when each answer comes
 abbrev pub Comes : List (List ℕ) → FilesSpan → Result (List ℕ) Fault → Type 0
 Comes words files (Ok text) = Accepts words files.told text ⊎ Computes words files.told text
-Comes words files (Err Usage) = command_of words ≡ None
-Comes words files (Err (Missing name)) =
-    Opens words files.told name × Rose files.misses_before files.misses_now × Lacks files.told name
-Comes words files (Err (ReadFault name)) = Opens words files.told name × Rose files.faults_before files.faults_now
-Comes words files (Err (Program kind line)) =
-    (command : Command) × (command_of words ≡ Some command) × RefusesProgram files.told (file_of command) kind line
-Comes words files (Err NotBuilt) = IsNotBuilt words files.told
-Comes words files (Err (Tensor name kind line)) =
-    (t : TensorType) × (name ≡ t.file) × ComesTo words files.told t × RefusesTensor files.told t kind line
-Comes words files (Err OutOfMemory) = Unit {0}
-Comes words files (Err (Schedule line)) = ⊥
-Comes words files (Err (TooManyBlocks blocks)) = ⊥
-Comes words files (Err (NoSuchChannel channel)) = ⊥
-Comes words files (Err (Stalled blocks)) = ⊥
-Comes words files (Err WriteFault) = ⊥
+Comes words files (Err fault) = Cause words files.told fault × Counted files fault
 
 -- ---- what an answer leaves
 
@@ -207,6 +216,18 @@ Complete words files out status =
     (m : Told) (command : Command) → files.told ≡ Some m → command_of words ≡ Some command → IsServed command m →
     ¬ Rose files.faults_before files.faults_now → ¬ Rose out.faults_before out.faults_now →
     (status ≡ 0) ⊎ (status ≡ 9)
+
+-- over a told map a command is to be refused so; what only a count can tell is left out
+abbrev pub IsDue : List (List ℕ) → Told → Fault → Type 0
+IsDue words m (ReadFault name) = ⊥
+IsDue words m OutOfMemory = ⊥
+IsDue words m fault = Cause words (Some m) fault
+
+-- where no count of faults rises, the refusal that is due is given, or there was no memory
+abbrev pub Exact : List (List ℕ) → FilesSpan → SinkSpan → SinkSpan → ℕ → Type 0
+Exact words files out err status =
+    (m : Told) (fault : Fault) → files.told ≡ Some m → IsDue words m fault → ¬ Rose files.faults_before files.faults_now →
+    Refused fault out err status ⊎ Refused OutOfMemory out err status
 
 -- that fault was said, or that there is no memory
 pub record ReportsFault (fault : Fault) (err : SinkSpan) (status : ℕ) : Type 0 where

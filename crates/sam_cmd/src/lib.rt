@@ -5,7 +5,7 @@
 #![tactic(auto)]
 
 ghost use Rattle.std.specs.Prelude.{◌≡◌, ◌≢◌, map, string_bytes};
-ghost use Rattle.sam_cmd.specs.Answers.{Answered, Complete};
+ghost use Rattle.sam_cmd.specs.Answers.{Answered, Complete, Exact};
 
 mod answer;
 mod command;
@@ -68,6 +68,27 @@ pub fn sam_serial<F: Files, O: Sink, E: Sink>(
           now = O.written out.new;
           faults_before = O.faults out.old;
           faults_now = O.faults out.new;
+        })
+        result }
+    ensures exact { Exact (map string_bytes words.now)
+        (record {
+          told = F.told files.old;
+          faults_before = F.faults files.old;
+          faults_now = F.faults files.new;
+          misses_before = F.misses files.old;
+          misses_now = F.misses files.new;
+        })
+        (record {
+          before = O.written out.old;
+          now = O.written out.new;
+          faults_before = O.faults out.old;
+          faults_now = O.faults out.new;
+        })
+        (record {
+          before = E.written err.old;
+          now = E.written err.new;
+          faults_before = E.faults err.old;
+          faults_now = E.faults err.new;
         })
         result }
     // no call at all was made on them, and not only nothing written
