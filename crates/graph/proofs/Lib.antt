@@ -7,3 +7,4 @@ mod Vectors
 mod Worked
 mod WorkedWiring
 mod WorkedConsistent
+mod WorkedPlacing
