@@ -9,3 +9,4 @@ mod Vectors
 mod Worked
 mod WorkedWiring
 mod WorkedConsistent
+mod WorkedPlacing

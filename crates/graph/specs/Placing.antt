@@ -1,6 +1,5 @@
 -- Blocks as they are placed one by one, each after the senders of its input channels.
-use Rattle.std.specs.Prelude.{◌≡◌, ◌<◌, ◌≤◌, ℕ, Bool, true, false, List, length, get_or, take}
-use Rattle.std.proofs.Common.{◌⊎◌}
+use Rattle.std.specs.Prelude.{◌≡◌, ◌<◌, ◌≤◌, ℕ, ◌⊎◌, Bool, true, false, List, length, get_or, take}
 use Rattle.std.specs.List.{Contains, count_by}
 use Rattle.graph.specs.declared.graphs.Graph.{Graph}
 use Rattle.graph.specs.declared.order.Progress.{Progress}

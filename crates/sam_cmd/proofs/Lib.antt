@@ -4,7 +4,6 @@ pub mod ProductCarried
 pub mod ProductRun
 pub mod ProductStreams
 pub mod ProductWired
-pub mod OneFiber
 pub mod OneRefusal
 pub mod Reading
 pub mod ReportLemmas
