@@ -5,7 +5,6 @@ pub mod ProductRun
 pub mod ProductStreams
 pub mod ProductWired
 pub mod OneRefusal
-pub mod Reading
 pub mod ReportLemmas
 pub mod ServedLemmas
 pub mod StepLemmas

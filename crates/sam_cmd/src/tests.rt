@@ -1,5 +1,7 @@
 //! Worked cases, over files and sinks in memory.
 
+mod machine;
+
 use crate::sam_serial;
 use sam_base::{ENTRIES_MOST, FILE_MOST, Items, Name, Nums};
 use sam_io::{MemFiles, MemSink};
