@@ -23,7 +23,7 @@ use Rattle.stepper.specs.Held.{Queued, Held, at_port}
 use Rattle.stepper.specs.NetOf.{net_of, rooms_of}
 use Rattle.stepper.specs.AtState.{AtState, QueueOf}
 use Rattle.stepper.proofs.Lists.{same_some, get_set_here, get_set_there}
-use Rattle.stepper.specs.Steps.{Wishes, Waits_on, Through, Moved, hindrance, hindrance_of}
+use Rattle.stepper.specs.Steps.{Wishes, WaitsOn, Through, Moved, hindrance, hindrance_of}
 use Rattle.stepper.specs.Told.{Grew}
 use Rattle.stepper.proofs.Wishes.{wish_take, wish_put}
 use Rattle.stepper.proofs.Wires.{wired, move_within, take_port, put_port}

@@ -24,7 +24,7 @@ use Rattle.stepper.specs.Held.{Queued, Held, at_port}
 use Rattle.stepper.specs.NetOf.{net_of, rooms_of}
 use Rattle.stepper.specs.AtState.{AtState, Somewhere}
 use Rattle.stepper.specs.Told.{Grew, GrewAt, one_told, HasLists}
-use Rattle.stepper.specs.Steps.{Wishes, Waits_on, Moved, hindrance, hindrance_of}
+use Rattle.stepper.specs.Steps.{Wishes, WaitsOn, Moved, hindrance, hindrance_of}
 use Rattle.stepper.proofs.Lists.{some_in, set_twice, set_same}
 use Rattle.stepper.proofs.Wires.{wired}
 use Rattle.stepper.proofs.Moving.{after, moved, put_facts}
@@ -72,7 +72,7 @@ module _ {B : Type 0} (kind : B → Kind) (stands : B → Streams → ℕ → Ty
 
   -- on a full channel nothing is put
   pub put_hindered : Wishes kind stands b (Put p t) m → (c : ℕ) → c ≡ at_port m.routes.outs b p → (q : Queued) → slice_get m.queues c ≡ Some q
-      → not (has_room q.room (length q.tokens)) ≡ true → Waits_on kind stands b c true m
+      → not (has_room q.room (length q.tokens)) ≡ true → WaitsOn kind stands b c true m
   put_hindered wishes c at q qat full storages g caps s h =
       let net = net_of storages g in
       let rooms = rooms_of caps in

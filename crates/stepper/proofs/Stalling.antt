@@ -25,9 +25,6 @@ use Rattle.stepper.proofs.Lists.{some_in}
 use Rattle.stepper.proofs.Wishes.{wish_finished}
 use Rattle.stepper.proofs.Moving.{take_facts, put_facts}
 
-entry : ℕ → ℕ → Bool → Waiting
-entry b c full = record { block = b; channel = c; full = full }
-
 module _ {B : Type 0} (kind : B → Kind) (stands : B → Streams → ℕ → Type 0) (m : Held B) where
 
   pub few_blocks : ∥ (Somewhere kind stands m) ∥₁ → length m.blocks < 2 ^ 32

@@ -22,7 +22,7 @@ use Rattle.stepper.specs.Held.{Queued, Held, at_port}
 use Rattle.stepper.specs.NetOf.{net_of, rooms_of}
 use Rattle.stepper.specs.AtState.{AtState, Somewhere}
 use Rattle.stepper.specs.Told.{Grew}
-use Rattle.stepper.specs.Steps.{Wishes, Waits_on, Moved, hindrance, hindrance_of}
+use Rattle.stepper.specs.Steps.{Wishes, WaitsOn, Moved, hindrance, hindrance_of}
 use Rattle.stepper.proofs.Lists.{some_in}
 use Rattle.stepper.proofs.Wires.{wired}
 use Rattle.stepper.proofs.Moving.{after, moved, take_facts}
@@ -63,7 +63,7 @@ module _ {B : Type 0} (kind : B → Kind) (stands : B → Streams → ℕ → Ty
 
   -- from an empty channel nothing is taken
   pub take_hindered : Wishes kind stands b (Take p) m → (c : ℕ) → c ≡ at_port m.routes.ins b p → (q : Queued) → slice_get m.queues c ≡ Some q
-      → slice_get q.tokens 0 ≡ None → Waits_on kind stands b c false m
+      → slice_get q.tokens 0 ≡ None → WaitsOn kind stands b c false m
   take_hindered wishes c at q qat none storages g caps s h =
       let net = net_of storages g in
       let f = take_facts kind stands storages g caps s m h b p wishes in

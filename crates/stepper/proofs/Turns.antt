@@ -15,7 +15,7 @@ use Rattle.stepper.specs.Held.{Held}
 use Rattle.stepper.specs.NetOf.{net_of, rooms_of}
 use Rattle.stepper.specs.AtState.{AtState, Wherever}
 use Rattle.stepper.specs.Told.{Grew, HasLists}
-use Rattle.stepper.specs.Steps.{Waits_on, Through, Moved, SameShape, hindrance, hindrance_of}
+use Rattle.stepper.specs.Steps.{WaitsOn, Through, Moved, SameShape, hindrance, hindrance_of}
 use Rattle.stepper.specs.Runs.{Leads, Played, Turned, Onwards}
 
 -- ---- what a tap is told
@@ -85,7 +85,7 @@ module _ {B : Type 0} (kind : B → Kind) (stands : B → Streams → ℕ → Ty
         subst (λ t. Grew net s t told told') (sym idle) (subst (Grew net s s told) (sym same_told) (grew_same net s told)))
 
   pub turned_blocked : (b c : ℕ) (full : Bool) (m : Held B) (told : Lists) (m' : Held B) (told' : Lists)
-      → (m' ≡ m) × (told' ≡ told) × Waits_on kind stands b c full m → Turned kind stands b false m told m' told'
+      → (m' ≡ m) × (told' ≡ told) × WaitsOn kind stands b c full m → Turned kind stands b false m told m' told'
   turned_blocked b c full m told m' told' h =
       turned_idle b m told m' told' (λ storages g caps s a. hindered_idle (net_of storages g) (rooms_of caps) s b c full (h.2 storages g caps s a)) h.0 h.1
 
