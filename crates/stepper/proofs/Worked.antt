@@ -1,17 +1,17 @@
 -- Worked cases: a root whose stream is copied to two drains.
-use Rattle.std.specs.Prelude.{◌≡◌, ◌<◌, ◌≤◌, ℕ, zero, suc, ◌+◌, ◌*◌, Bool, true, false, List, [], ◌∷◌, ◌++◌, length, get_or, Option, Some, None, refl}
+use Rattle.std.specs.Prelude.{◌≡◌, ◌<◌, ◌≤◌, ℕ, zero, suc, ◌*◌, Bool, true, false, List, [], ◌∷◌, length, get_or, Option, Some, None, refl}
 use Rattle.std.proofs.Common.{arith}
 use Rattle.stream_tokens.specs.declared.Token.{Token}
 use Rattle.stream_tokens.specs.declared.Token.TheVariants.{Item, Done}
 use Rattle.stream_model.specs.declared.labels.Tree.TheVariants as tree
 use Rattle.stream_model.specs.declared.labels.Attr.TheVariants as attr
 use Rattle.sam_base.specs.declared.faults.Waiting.{Waiting}
-use Rattle.block_core.specs.Move.{Move, Taking, Putting}
+use Rattle.block_core.specs.Move.{Taking, Putting}
 use Rattle.graph.specs.declared.graphs.Kind.TheVariants.{Root, Cast, Drain}
 use Rattle.graph.specs.declared.graphs.Channel.{Channel}
 use Rattle.graph.specs.declared.graphs.Graph.{Graph}
 use Rattle.graph.specs.WholeStreams.{whole_stream}
-use Rattle.plays.specs.Net.{Net, State, play, start, can, sum_below}
+use Rattle.plays.specs.Net.{Net, play, start, sum_below}
 use Rattle.stepper.specs.Capacity.{InRange, CapacitiesFor}
 use Rattle.stepper.specs.Held.{Table, at_port}
 use Rattle.stepper.specs.NetOf.{net_of, rooms_of}

@@ -60,7 +60,13 @@ impl<B: BlockStep + Drop> Machine<B> {
 
     /// A block puts a token, where there is room. The queue's memory is taken before the tap is told.
     #[inline]
-    fn put<T: Tap>(&mut self, block: usize, port: u32, t: Token, tap: &mut T) -> Result<Stepped, AllocError>
+    fn put<T: Tap>(
+        &mut self,
+        block: usize,
+        port: u32,
+        t: Token,
+        tap: &mut T,
+    ) -> Result<Stepped, AllocError>
         requires within { block < length self.old.blocks }
         requires wishes { Wishes B.kind B.stands block (WishPut port t) self.old }
         requires lists { HasLists (length self.old.queues) (T.told tap.old) }
@@ -82,7 +88,8 @@ impl<B: BlockStep + Drop> Machine<B> {
             });
         }
         push_at(&mut self.queues, place, t)?;
-        if let Err(error) = tap.on_put(channel, t) {
+        let told = tap.on_put(channel, t);
+        if let Err(error) = told {
             unpush_at(&mut self.queues, place);
             return Err(error);
         }
@@ -93,7 +100,12 @@ impl<B: BlockStep + Drop> Machine<B> {
 
     /// A block does what it wishes, where it can.
     #[inline]
-    pub(super) fn act<T: Tap>(&mut self, block: usize, wish: Wish, tap: &mut T) -> Result<Stepped, AllocError>
+    pub(super) fn act<T: Tap>(
+        &mut self,
+        block: usize,
+        wish: Wish,
+        tap: &mut T,
+    ) -> Result<Stepped, AllocError>
         requires within { block < length self.old.blocks }
         requires wishes { Wishes B.kind B.stands block wish self.old }
         requires lists { HasLists (length self.old.queues) (T.told tap.old) }
@@ -137,7 +149,12 @@ impl<B: BlockStep + Drop> Machine<B> {
 
     /// A block does what it wishes, where it can. The answer says whether it could.
     #[inline]
-    pub(super) fn attempt<T: Tap>(&mut self, block: usize, wish: Wish, tap: &mut T) -> Result<bool, AllocError>
+    pub(super) fn attempt<T: Tap>(
+        &mut self,
+        block: usize,
+        wish: Wish,
+        tap: &mut T,
+    ) -> Result<bool, AllocError>
         requires within { block < length self.old.blocks }
         requires wishes { Wishes B.kind B.stands block wish self.old }
         requires lists { HasLists (length self.old.queues) (T.told tap.old) }
