@@ -1,14 +1,11 @@
 -- The laws of plays, for the nets of graphs.
-use Rattle.std.specs.Prelude.{◌≡◌, ℕ, ◌+◌, ◌*◌, ◌<◌, ◌≤◌, List, ◌++◌, length, drop, slice_range, Option, Some}
+use Rattle.std.specs.Prelude.{List, length, drop, slice_range, Some}
 use Rattle.std.proofs.Common.{arith, sym, ◌∙◌, ap, subst}
 use Rattle.stream_tokens.specs.declared.Token.{Token}
-use Rattle.sam_model.specs.Children.{Ranked}
 use Rattle.block_core.specs.Move.{takes, puts}
-use Rattle.graph.specs.declared.graphs.Graph.{Graph}
-use Rattle.graph.specs.Wiring.{channel, WellFormed}
-use Rattle.graph.specs.WholeStreams.{whole_stream, Consistent}
-use Rattle.graph.specs.Standing.{block_moves}
-use Rattle.plays.specs.Net.{Net, State, Wired, AtMost, whole, sent, got, sum_below}
+use Rattle.graph.specs.Wiring.{channel}
+use Rattle.graph.specs.WholeStreams.{whole_stream}
+use Rattle.plays.specs.Net.{AtMost, whole, sent, got}
 use Rattle.plays.proofs.Waiting.{sent_whole, got_whole, waits_queue}
 use Rattle.plays.proofs.Sums.{sum_same}
 use Rattle.plays.proofs.Always.{always-kept}
@@ -16,7 +13,7 @@ use Rattle.plays.proofs.Ends.{one-end, some-end, more-room}
 use Rattle.plays.proofs.Finishing.{all_sent, no-stall}
 use Rattle.plays.proofs.Count.{twice-each}
 use Rattle.stepper.specs.NetOf.{net_of, rooms_of}
-use Rattle.stepper.specs.Laws.{GraphsAreWired, PartWay, AlwaysPartWay, QueuesArePart, OneEnd, MoreRoomNeverHurts, RoomSuffices, MoveCount, AllIsSent}
+use Rattle.stepper.specs.Laws.{GraphsAreWired, AlwaysPartWay, QueuesArePart, OneEnd, MoreRoomNeverHurts, RoomSuffices, MoveCount, AllIsSent}
 use Rattle.stepper.proofs.Wires.{wired, put_whole}
 
 pub graphs-are-wired : GraphsAreWired
@@ -60,7 +57,7 @@ pub move-count : MoveCount
 move-count storages g s w k done =
     let net = net_of storages g in
     let same = sum_same (length g.channels) (λ c. length (whole_stream storages g c)) (λ c. length (whole net c))
-        (λ c l. ap (λ (z : List Token). length z) (put_whole storages g c w k l)) in
+    (λ c l. ap (λ (z : List Token). length z) (put_whole storages g c w k l)) in
     let twice = twice-each net s (wired storages g w k) done in
     omega (arith, twice, same)
 

@@ -1,10 +1,9 @@
 -- The tables of ports, and the queues before the first event.
-use Rattle.std.specs.Prelude.{◌≡◌, ◌<◌, ◌≤◌, ℕ, zero, suc, ◌+◌, ◌-◌, ◌^◌, min, List, [], ◌∷◌, ◌++◌, length, slice_get, get_or, All, Option, Some, None, refl}
+use Rattle.std.specs.Prelude.{◌≡◌, ◌<◌, ℕ, ◌+◌, ◌-◌, ◌^◌, min, List, [], ◌∷◌, ◌++◌, length, slice_get, get_or, All, Option, Some, None}
 use Rattle.std.proofs.Common.{arith, sym, ◌∙◌, ap, subst, inl, inr, length-append}
-use Rattle.std.proofs.lemmas.Bool.{cases_eq, cases_lt}
-use Rattle.std.proofs.lemmas.List.{get_or_append_left, get_or-append-add, get_or-append_right}
+use Rattle.std.proofs.lemmas.Bool.{cases_lt}
+use Rattle.std.proofs.lemmas.List.{get_or_append_left, get_or-append-add}
 use Rattle.std.proofs.lemmas.List.Elements.{All-from_get_or}
-use Rattle.std.proofs.lemmas.Option.{slice_get_within, slice_get-get_or}
 use Rattle.sam_model.specs.Children.{Ranked}
 use Rattle.block_core.specs.Ports.{Streams}
 use Rattle.block_core.specs.Kind.{Kind}
@@ -16,7 +15,7 @@ use Rattle.plays.specs.Net.{Waits, start}
 use Rattle.plays.proofs.Waiting.{waits_start}
 use Rattle.plays.proofs.Sums.{sum_zero}
 use Rattle.plays.proofs.Always.{start_kept}
-use Rattle.stepper.specs.Held.{Table, Queued, Held, at_port}
+use Rattle.stepper.specs.Held.{Table, Queued, Held}
 use Rattle.stepper.specs.NetOf.{net_of, rooms_of}
 use Rattle.stepper.specs.AtState.{Lists, Routed, AtState}
 
@@ -32,11 +31,11 @@ pub lists_more : (t u : Table) (n : ℕ) (row : ℕ → List ℕ) (cs : List ℕ
     → u.first ≡ t.first ++ length t.channels ∷ [] → u.channels ≡ t.channels ++ cs → Lists u (n + 1) row
 lists_more t u n row cs h e first channels =
     let old : (b : ℕ) → b < n → get_or u.first b 0 ≡ get_or t.first b 0 =
-        λ b l. ap (λ (z : List ℕ). get_or z b 0) first ∙ get_or_append_left t.first (length t.channels ∷ []) 0 b (omega (arith, l, h.blocks)) in
+    λ b l. ap (λ (z : List ℕ). get_or z b 0) first ∙ get_or_append_left t.first (length t.channels ∷ []) 0 b (omega (arith, l, h.blocks)) in
     let new : get_or u.first n 0 ≡ length t.channels =
-        ap (λ (z : List ℕ). get_or z n 0) first
-        ∙ ap (λ k. get_or (t.first ++ length t.channels ∷ []) k 0) (let b = h.blocks in omega (arith, b))
-        ∙ get_or-append-add t.first (length t.channels ∷ []) 0 0 in
+    ap (λ (z : List ℕ). get_or z n 0) first
+    ∙ ap (λ k. get_or (t.first ++ length t.channels ∷ []) k 0) (let b = h.blocks in omega (arith, b))
+    ∙ get_or-append-add t.first (length t.channels ∷ []) 0 0 in
     let long : length u.channels ≡ length t.channels + length cs = ap (λ (z : List ℕ). length z) channels ∙ length-append t.channels cs in
     record {
       blocks = let l = ap (λ (z : List ℕ). length z) first in let k = length-append t.first (length t.channels ∷ []) in omega (arith, l, k, h.blocks);

@@ -9,3 +9,4 @@ pub mod Turns
 pub mod Stalling
 pub mod Laying
 pub mod GraphLaws
+mod Worked

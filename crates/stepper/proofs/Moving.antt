@@ -1,30 +1,28 @@
 -- An event of the machine: it stands where the event leads.
-use Rattle.std.specs.Prelude.{◌≡◌, ◌<◌, ◌≤◌, ℕ, suc, ◌+◌, ◌-◌, ◌^◌, min, Bool, true, false, cond, nat_lt, List, [], ◌∷◌, ◌++◌, length, take, drop, set, slice_get, get_or, Option, Some, None, refl}
+use Rattle.std.specs.Prelude.{◌≡◌, ◌<◌, ℕ, suc, ◌+◌, ◌-◌, ◌^◌, min, true, List, length, set, slice_get, get_or, Option, Some}
 use Rattle.std.proofs.Common.{arith, sym, ◌∙◌, ap, subst, inl, inr}
 use Rattle.std.proofs.lemmas.Bool.{cases_eq}
 use Rattle.std.proofs.lemmas.Option.{slice_get_within}
 use Rattle.stream_tokens.specs.declared.Token.{Token}
 use Rattle.sam_model.specs.Children.{Ranked}
 use Rattle.block_core.specs.declared.Wish.TheVariants.{Take, Put}
-use Rattle.block_core.specs.Move.{Move, Taking, Putting}
+use Rattle.block_core.specs.Move.{Taking, Putting}
 use Rattle.block_core.specs.Ports.{Streams}
 use Rattle.block_core.specs.Kind.{Kind}
 use Rattle.graph.specs.declared.graphs.Graph.{Graph}
 use Rattle.graph.specs.Meaning.{meaning}
-use Rattle.graph.specs.Wiring.{block, into, out_of, WellFormed}
-use Rattle.graph.specs.WholeStreams.{whole_inputs, Consistent}
-use Rattle.graph.specs.Standing.{block_moves, StandAt}
-use Rattle.plays.specs.Net.{Net, Rooms, State, Wired, Kept, Waits, can, raise, sum_below, waiting}
+use Rattle.graph.specs.Wiring.{block, into, out_of}
+use Rattle.graph.specs.WholeStreams.{whole_inputs}
+use Rattle.graph.specs.Standing.{block_moves}
+use Rattle.plays.specs.Net.{State, Waits, can, raise, sum_below}
 use Rattle.plays.proofs.Event.{raise_here, raise_there}
-use Rattle.plays.proofs.Waiting.{waits_length, waits_put, waits_put_there, waits_take, waits_take_there, front_next, can_take, can_put}
 use Rattle.plays.proofs.Sums.{raise_sum}
 use Rattle.plays.proofs.Always.{event_kept, in_net}
 use Rattle.stepper.specs.Held.{Queued, Held, at_port}
 use Rattle.stepper.specs.NetOf.{net_of, rooms_of}
 use Rattle.stepper.specs.AtState.{AtState, QueueOf}
 use Rattle.stepper.proofs.Lists.{same_some, get_set_here, get_set_there}
-use Rattle.stepper.specs.Steps.{Wishes, Waits_on, Through, Moved, hindrance, hindrance_of}
-use Rattle.stepper.specs.Told.{Grew}
+use Rattle.stepper.specs.Steps.{Wishes}
 use Rattle.stepper.proofs.Wishes.{wish_take, wish_put}
 use Rattle.stepper.proofs.Wires.{wired, move_within, take_port, put_port}
 use Rattle.std.proofs.lemmas.List.{length-set}
@@ -42,7 +40,6 @@ counted_more : (n m : ℕ) → m ≡ min n (2 ^ 64 - 1) → min (m + 1) (2 ^ 64 
 counted_more n m e = grind (arith)
 
 module _ {B : Type 0} (kind : B → Kind) (stands : B → Streams → ℕ → Type 0) (storages : List Ranked) (g : Graph) (caps : List (Option ℕ)) where
-
   -- an event is possible, its block and its queue are where it leads, and nothing else changed
   pub moved : (s : State) (m : Held B) → AtState kind stands storages g caps s m
       → (b : ℕ) (x y : B) (c : ℕ) (q q' : Queued)
@@ -76,7 +73,7 @@ module _ {B : Type 0} (kind : B → Kind) (stands : B → Streams → ℕ → Ty
                 let yz : y ≡ z = same_some y z (sym (get_set_here m.blocks b y lb) ∙ f) in
                 let one : s b + 1 ≡ raise b s b = let r = raise_here b s in omega (arith, r) in
                 let here : stands z (whole_inputs storages g b) (raise b s b) =
-                    subst (λ u. stands u (whole_inputs storages g b) (raise b s b)) yz (subst (stands y (whole_inputs storages g b)) one st) in
+                subst (λ u. stands u (whole_inputs storages g b) (raise b s b)) yz (subst (stands y (whole_inputs storages g b)) one st) in
                 subst (λ n. stands z (whole_inputs storages g n) (raise b s n)) (sym same) here
             | inr other ↦
                 subst (stands z (whole_inputs storages g d)) (sym (raise_there b s d other))

@@ -1,6 +1,6 @@
 -- The blocks that aren't finished.
-use Rattle.std.specs.Prelude.{◌≡◌, ◌<◌, ◌≤◌, ℕ, zero, suc, ◌+◌, ◌^◌, Bool, true, false, List, [], ◌∷◌, ◌++◌, length, slice_get, Option, Some, None, option_to_list, refl}
-use Rattle.std.proofs.Common.{arith, sym, ◌∙◌, ap, subst, append-nil, inl, inr, length-append}
+use Rattle.std.specs.Prelude.{◌≡◌, ◌<◌, ◌≤◌, ℕ, zero, suc, ◌^◌, true, false, List, [], ◌∷◌, ◌++◌, length, slice_get, Option, Some, None, refl}
+use Rattle.std.proofs.Common.{arith, sym, ◌∙◌, ap, subst, inl, inr}
 use Rattle.std.proofs.lemmas.Bool.{cases_eq, cases_lt}
 use Rattle.std.proofs.lemmas.Option.{slice_get_past, slice_get_within}
 use Rattle.std.proofs.Math.Logic.{∥∥₁_elim}
@@ -17,19 +17,14 @@ use Rattle.graph.specs.WholeStreams.{whole_inputs}
 use Rattle.graph.specs.Standing.{block_moves, StandAt, at_end}
 use Rattle.plays.specs.Net.{Net, State, Kept, Rooms, Finished}
 use Rattle.stepper.specs.Held.{Held, at_port}
-use Rattle.stepper.specs.NetOf.{net_of, rooms_of}
-use Rattle.stepper.specs.AtState.{AtState, Somewhere, Wherever}
+use Rattle.stepper.specs.NetOf.{net_of}
+use Rattle.stepper.specs.AtState.{Somewhere, Wherever}
 use Rattle.stepper.specs.Steps.{Wishes}
 use Rattle.stepper.specs.Endings.{waiting_for, waiting_below, waiting_list}
-use Rattle.stepper.proofs.Lists.{some_in}
 use Rattle.stepper.proofs.Wishes.{wish_finished}
 use Rattle.stepper.proofs.Moving.{take_facts, put_facts}
 
-entry : ℕ → ℕ → Bool → Waiting
-entry b c full = record { block = b; channel = c; full = full }
-
 module _ {B : Type 0} (kind : B → Kind) (stands : B → Streams → ℕ → Type 0) (m : Held B) where
-
   pub few_blocks : ∥ (Somewhere kind stands m) ∥₁ → length m.blocks < 2 ^ 32
   few_blocks sits = ∥∥₁_elim sits le_prop (λ r. omega (arith, r.4.routed.few, r.4.standing.number))
 

@@ -1,28 +1,24 @@
 -- A block takes a token.
-use Rattle.std.specs.Prelude.{◌≡◌, ◌<◌, ◌≤◌, ℕ, suc, ◌+◌, ◌-◌, ◌^◌, min, Bool, true, false, cond, nat_lt, List, [], ◌∷◌, ◌++◌, length, take, drop, set, slice_get, get_or, Option, Some, None, refl}
+use Rattle.std.specs.Prelude.{◌≡◌, ◌<◌, ℕ, ◌+◌, ◌-◌, ◌^◌, min, true, false, cond, nat_lt, List, [], ◌∷◌, length, drop, set, slice_get, get_or, Option, Some, None, refl}
 use Rattle.std.proofs.Common.{arith, sym, ◌∙◌, ap, subst, append-nil}
 use Rattle.std.proofs.lemmas.Bool.Decides.{nat_tests}
 use Rattle.std.proofs.Math.Logic.{∥∥₁_elim, ∥∥₁_map}
 use Rattle.std.specs.Coded.{le_prop}
 use Rattle.stream_tokens.specs.declared.Token.{Token}
-use Rattle.sam_model.specs.Children.{Ranked}
 use Rattle.block_core.specs.declared.Wish.TheVariants.{Take}
-use Rattle.block_core.specs.Move.{Move, Taking, Putting}
+use Rattle.block_core.specs.Move.{Taking}
 use Rattle.block_core.specs.Ports.{Streams}
 use Rattle.block_core.specs.Kind.{Kind, moves}
-use Rattle.graph.specs.declared.graphs.Graph.{Graph}
-use Rattle.graph.specs.Meaning.{meaning}
-use Rattle.graph.specs.Wiring.{block, into}
+use Rattle.graph.specs.Wiring.{into}
 use Rattle.graph.specs.WholeStreams.{whole_inputs}
-use Rattle.graph.specs.Standing.{block_moves}
-use Rattle.plays.specs.Net.{Net, Rooms, State, Waits, can, raise, waiting}
+use Rattle.plays.specs.Net.{Net, State, Waits, can, raise, waiting}
 use Rattle.plays.proofs.Event.{sent_take}
 use Rattle.plays.proofs.Waiting.{waits_length, waits_take, waits_take_there, front_next, can_take}
 use Rattle.stepper.specs.Held.{Queued, Held, at_port}
 use Rattle.stepper.specs.NetOf.{net_of, rooms_of}
 use Rattle.stepper.specs.AtState.{AtState, Somewhere}
 use Rattle.stepper.specs.Told.{Grew}
-use Rattle.stepper.specs.Steps.{Wishes, Waits_on, Moved, hindrance, hindrance_of}
+use Rattle.stepper.specs.Steps.{Wishes, WaitsOn, Moved, hindrance_of}
 use Rattle.stepper.proofs.Lists.{some_in}
 use Rattle.stepper.proofs.Wires.{wired}
 use Rattle.stepper.proofs.Moving.{after, moved, take_facts}
@@ -31,10 +27,11 @@ use Rattle.stepper.proofs.Moving.{after, moved, take_facts}
 told_take : (net : Net) (s : State) (b p : ℕ) (t : Token) (told : Option (List (List Token))) → slice_get (net.moves b) (s b) ≡ Some (Taking p t)
     → Grew net s (raise b s) told told
 told_take net s b p t None e = tt
-told_take net s b p t (Some ts) e =
-    (refl,
-      λ c l. ([], sent_take net s b p t c e ∙ sym (append-nil _), sym (append-nil (get_or ts c []))),
-      λ c l. refl)
+told_take net s b p t (Some ts) e = (
+  refl,
+  λ c l. ([], sent_take net s b p t c e ∙ sym (append-nil _), sym (append-nil (get_or ts c []))),
+  λ c l. refl,
+)
 
 front_first : (q : List Token) (t : Token) → slice_get q 0 ≡ Some t → q ≡ t ∷ drop 1 q
 front_first [] t e = absurd (cc)
@@ -49,7 +46,6 @@ no_front [] e = refl
 no_front (u ∷ q) e = absurd (cc)
 
 module _ {B : Type 0} (kind : B → Kind) (stands : B → Streams → ℕ → Type 0) (m : Held B) (b p : ℕ) where
-
   pub take_block : ∥ (Somewhere kind stands m) ∥₁ → Wishes kind stands b (Take p) m → b < length m.routes.ins.first
   take_block sits wishes = ∥∥₁_elim sits le_prop (λ r. (take_facts kind stands r.0 r.1 r.2 r.3 m r.4 b p wishes).2)
 
@@ -63,7 +59,7 @@ module _ {B : Type 0} (kind : B → Kind) (stands : B → Streams → ℕ → Ty
 
   -- from an empty channel nothing is taken
   pub take_hindered : Wishes kind stands b (Take p) m → (c : ℕ) → c ≡ at_port m.routes.ins b p → (q : Queued) → slice_get m.queues c ≡ Some q
-      → slice_get q.tokens 0 ≡ None → Waits_on kind stands b c false m
+      → slice_get q.tokens 0 ≡ None → WaitsOn kind stands b c false m
   take_hindered wishes c at q qat none storages g caps s h =
       let net = net_of storages g in
       let f = take_facts kind stands storages g caps s m h b p wishes in
@@ -86,16 +82,21 @@ module _ {B : Type 0} (kind : B → Kind) (stands : B → Streams → ℕ → Ty
       let w : Waits net r.3 (into r.1 b p) q.tokens = subst (λ n. Waits net r.3 n q.tokens) here (h.queues c q qat).1 in
       let first : Waits net r.3 (into r.1 b p) (t ∷ drop 1 q.tokens) = subst (Waits net r.3 (into r.1 b p)) (front_first q.tokens t front) w in
       let next : t ≡ f.0 = front_next net r.3 b p f.0 t (drop 1 q.tokens) (wired r.0 r.1 h.well_formed h.consistent) f.1 first in
-      let x = some_in m.blocks b lb in
-      (x.0, whole_inputs r.0 r.1 b, r.3 b, x.1, h.standing.placed b x.0 x.1,
+      let x = some_in m.blocks b lb in (
+        x.0,
+        whole_inputs r.0 r.1 b,
+        r.3 b,
+        x.1,
+        h.standing.placed b x.0 x.1,
         ap (λ k. slice_get (moves k (whole_inputs r.0 r.1 b)) (r.3 b)) (h.standing.kinds b x.0 x.1)
-        ∙ f.1 ∙ ap (λ u. Some (Taking p u)) (sym next)))
+            ∙ f.1 ∙ ap (λ u. Some (Taking p u)) (sym next),
+      ))
 
   -- it has taken it
   pub took : Wishes kind stands b (Take p) m → b < length m.blocks → (c : ℕ) → c ≡ at_port m.routes.ins b p → (q : Queued) → slice_get m.queues c ≡ Some q
       → (t : Token) → slice_get q.tokens 0 ≡ Some t
       → (bs : List B) → ((x : B) → slice_get m.blocks b ≡ Some x → (y : B) × (bs ≡ set m.blocks b y) × (kind y ≡ kind x)
-        × ((s : Streams) (n : ℕ) → stands x s n → slice_get (moves (kind x) s) n ≡ Some (Taking p t) → stands y s (n + 1)))
+      × ((s : Streams) (n : ℕ) → stands x s n → slice_get (moves (kind x) s) n ≡ Some (Taking p t) → stands y s (n + 1)))
       → (qs : List Queued) → qs ≡ set m.queues c (record { tokens = drop 1 q.tokens; room = q.room })
       → (n : ℕ) → n ≡ min (m.moves + 1) (2 ^ 64 - 1)
       → (told : Option (List (List Token))) → Moved kind stands b m told (record { blocks = bs; queues = qs; moves = n; routes = m.routes }) told
@@ -113,16 +114,16 @@ module _ {B : Type 0} (kind : B → Kind) (stands : B → Streams → ℕ → Ty
       let y = taken x.0 x.1 in
       let q' : Queued = record { tokens = drop 1 q.tokens; room = q.room } in
       let own : slice_get (moves (kind x.0) (whole_inputs storages g b)) (s b) ≡ Some (Taking p t) =
-          ap (λ k. slice_get (moves k (whole_inputs storages g b)) (s b)) (h.standing.kinds b x.0 x.1) ∙ move in
+      ap (λ k. slice_get (moves k (whole_inputs storages g b)) (s b)) (h.standing.kinds b x.0 x.1) ∙ move in
       let stood : stands y.0 (whole_inputs storages g b) (s b + 1) = y.3 (whole_inputs storages g b) (s b) (h.standing.placed b x.0 x.1) own in
       let waits : Waits net (raise b s) c (drop 1 q.tokens) = subst (λ k. Waits net (raise b s) k (drop 1 q.tokens)) (sym here) (waits_take net s b p t (drop 1 q.tokens) wire move first) in
       let at' : AtState kind stands storages g caps (raise b s) (after m b y.0 c q') =
-          moved kind stands storages g caps s m h b x.0 y.0 c q q' possible x.1 y.2 stood qat refl waits
-          (λ d r ld other old. waits_take_there net s b p t d r wire move ld (λ z. other (z ∙ sym here)) old) in
+      moved kind stands storages g caps s m h b x.0 y.0 c q q' possible x.1 y.2 stood qat refl waits
+      (λ d r ld other old. waits_take_there net s b p t d r wire move ld (λ z. other (z ∙ sym here)) old) in
       let same : after m b y.0 c q' ≡ record { blocks = bs; queues = qs; moves = n; routes = m.routes } =
-          ap (λ z. record { blocks = z; queues = set m.queues c q'; moves = min (m.moves + 1) (2 ^ 64 - 1); routes = m.routes }) (sym y.1)
-          ∙ ap (λ z. record { blocks = bs; queues = z; moves = min (m.moves + 1) (2 ^ 64 - 1); routes = m.routes }) (sym popped)
-          ∙ ap (λ z. record { blocks = bs; queues = qs; moves = z; routes = m.routes }) (sym counted) in
+      ap (λ z. record { blocks = z; queues = set m.queues c q'; moves = min (m.moves + 1) (2 ^ 64 - 1); routes = m.routes }) (sym y.1)
+      ∙ ap (λ z. record { blocks = bs; queues = z; moves = min (m.moves + 1) (2 ^ 64 - 1); routes = m.routes }) (sym popped)
+      ∙ ap (λ z. record { blocks = bs; queues = qs; moves = z; routes = m.routes }) (sym counted) in
       (possible, subst (AtState kind stands storages g caps (raise b s)) same at', told_take net s b p t told move)
 
 -- a machine that moved stands somewhere

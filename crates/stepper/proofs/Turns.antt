@@ -1,22 +1,20 @@
 -- Turns of blocks, one after another.
-use Rattle.std.specs.Prelude.{◌≡◌, ◌<◌, ◌≤◌, ℕ, zero, suc, ◌+◌, Bool, true, false, cond, List, [], ◌∷◌, ◌++◌, length, take, slice_get, get_or, Option, Some, None, refl}
+use Rattle.std.specs.Prelude.{◌≡◌, ◌<◌, ◌≤◌, ℕ, ◌+◌, Bool, true, false, cond, List, [], ◌∷◌, ◌++◌, length, take, slice_get, get_or, Option, Some, None, refl}
 use Rattle.std.proofs.Common.{arith, sym, ◌∙◌, ap, subst, append-nil, append_assoc}
 use Rattle.std.proofs.lemmas.List.{take_more, get_or_default}
 use Rattle.std.proofs.lemmas.Option.{slice_get_past}
 use Rattle.stream_tokens.specs.declared.Token.{Token}
-use Rattle.sam_model.specs.Children.{Ranked}
 use Rattle.block_core.specs.Move.{Move, Taking, Putting}
 use Rattle.block_core.specs.Ports.{Streams}
 use Rattle.block_core.specs.Kind.{Kind}
-use Rattle.graph.specs.declared.graphs.Graph.{Graph}
-use Rattle.plays.specs.Net.{Net, Rooms, State, Stuck, can, can_move, turn, play, raise}
+use Rattle.plays.specs.Net.{Net, Rooms, State, Stuck, can, can_move, turn, play}
 use Rattle.plays.proofs.Always.{turn_made, turn_idle, play_append}
 use Rattle.stepper.specs.Held.{Held}
 use Rattle.stepper.specs.NetOf.{net_of, rooms_of}
 use Rattle.stepper.specs.AtState.{AtState, Wherever}
 use Rattle.stepper.specs.Told.{Grew, HasLists}
-use Rattle.stepper.specs.Steps.{Waits_on, Through, Moved, SameShape, hindrance, hindrance_of}
-use Rattle.stepper.specs.Runs.{Leads, Played, Turned, Onwards}
+use Rattle.stepper.specs.Steps.{WaitsOn, Through, Moved, SameShape, hindrance, hindrance_of}
+use Rattle.stepper.specs.Runs.{Played, Turned, Onwards}
 
 -- ---- what a tap is told
 
@@ -33,15 +31,17 @@ grew_then net s t u None None (Some z) a b = absurd b
 grew_then net s t u None (Some y) z a b = absurd a
 grew_then net s t u (Some x) None z a b = absurd a
 grew_then net s t u (Some x) (Some y) None a b = absurd b
-grew_then net s t u (Some x) (Some y) (Some z) a b =
-    (b.0 ∙ a.0,
-      λ c l.
-        let p = a.1 c l in
-        let q = b.1 c l in
-        (p.0 ++ q.0,
-          q.1 ∙ ap (λ (w : List Token). w ++ q.0) p.1 ∙ append_assoc _ p.0 q.0,
-          q.2 ∙ ap (λ (w : List Token). w ++ q.0) p.2 ∙ append_assoc (get_or x c []) p.0 q.0),
-      λ c l. b.2 c l ∙ a.2 c l)
+grew_then net s t u (Some x) (Some y) (Some z) a b = (
+  b.0 ∙ a.0,
+  λ c l.
+      let p = a.1 c l in
+      let q = b.1 c l in (
+        p.0 ++ q.0,
+        q.1 ∙ ap (λ (w : List Token). w ++ q.0) p.1 ∙ append_assoc _ p.0 q.0,
+        q.2 ∙ ap (λ (w : List Token). w ++ q.0) p.2 ∙ append_assoc (get_or x c []) p.0 q.0,
+      ),
+  λ c l. b.2 c l ∙ a.2 c l,
+)
 
 -- ---- a block that has to wait, or is through, has no event
 
@@ -65,27 +65,29 @@ through_idle net rooms s b e = ap (can_move net rooms s b) (slice_get_past (net.
 -- ---- one turn
 
 module _ {B : Type 0} (kind : B → Kind) (stands : B → Streams → ℕ → Type 0) where
-
   pub turned_moved : (b : ℕ) (m : Held B) (told : Lists) (m' : Held B) (told' : Lists)
       → Moved kind stands b m told m' told' → Turned kind stands b true m told m' told'
   turned_moved b m told m' told' moves storages g caps s h =
       let r = moves storages g caps s h in
-      let made = turn_made (net_of storages g) (rooms_of caps) s b r.0 in
-      (r.0, subst (λ t. AtState kind stands storages g caps t m') (sym made) r.1,
-        subst (λ t. Grew (net_of storages g) s t told told') (sym made) r.2)
+      let made = turn_made (net_of storages g) (rooms_of caps) s b r.0 in (
+        r.0,
+        subst (λ t. AtState kind stands storages g caps t m') (sym made) r.1,
+        subst (λ t. Grew (net_of storages g) s t told told') (sym made) r.2,
+      )
 
   turned_idle : (b : ℕ) (m : Held B) (told : Lists) (m' : Held B) (told' : Lists)
       → Wherever kind stands m (λ net rooms s. can net rooms s b ≡ false) → m' ≡ m → told' ≡ told → Turned kind stands b false m told m' told'
   turned_idle b m told m' told' cannot same same_told storages g caps s h =
       let net = net_of storages g in
       let none = cannot storages g caps s h in
-      let idle = turn_idle net (rooms_of caps) s b none in
-      (none,
+      let idle = turn_idle net (rooms_of caps) s b none in (
+        none,
         subst (λ t. AtState kind stands storages g caps t m') (sym idle) (subst (AtState kind stands storages g caps s) (sym same) h),
-        subst (λ t. Grew net s t told told') (sym idle) (subst (Grew net s s told) (sym same_told) (grew_same net s told)))
+        subst (λ t. Grew net s t told told') (sym idle) (subst (Grew net s s told) (sym same_told) (grew_same net s told)),
+      )
 
   pub turned_blocked : (b c : ℕ) (full : Bool) (m : Held B) (told : Lists) (m' : Held B) (told' : Lists)
-      → (m' ≡ m) × (told' ≡ told) × Waits_on kind stands b c full m → Turned kind stands b false m told m' told'
+      → (m' ≡ m) × (told' ≡ told) × WaitsOn kind stands b c full m → Turned kind stands b false m told m' told'
   turned_blocked b c full m told m' told' h =
       turned_idle b m told m' told' (λ storages g caps s a. hindered_idle (net_of storages g) (rooms_of caps) s b c full (h.2 storages g caps s a)) h.0 h.1
 
@@ -94,7 +96,7 @@ module _ {B : Type 0} (kind : B → Kind) (stands : B → Streams → ℕ → Ty
   turned_ended b m told m' told' h =
       turned_idle b m told m' told' (λ storages g caps s a. through_idle (net_of storages g) (rooms_of caps) s b (h.2 storages g caps s a)) h.0 h.1
 
--- ---- a schedule
+  -- ---- a schedule
 
   pub played_none : (m : Held B) (told : Lists) → Played kind stands [] m told m told
   played_none m told storages g caps s h = (h, grew_same (net_of storages g) s told)
@@ -111,10 +113,11 @@ module _ {B : Type 0} (kind : B → Kind) (stands : B → Streams → ℕ → Ty
       let b : ℕ = get_or bs i 0 in
       let longer : take (i + 1) bs ≡ take i bs ++ b ∷ [] = take_more bs i 0 l in
       let same : turn net rooms (play net rooms s (take i bs)) b ≡ play net rooms s (take (i + 1) bs) =
-          sym (play_append net rooms s (take i bs) (b ∷ [])) ∙ ap (play net rooms s) (sym longer) in
-      (subst (λ t. AtState kind stands storages g caps t m'') same q.1,
+      sym (play_append net rooms s (take i bs) (b ∷ [])) ∙ ap (play net rooms s) (sym longer) in (
+        subst (λ t. AtState kind stands storages g caps t m'') same q.1,
         subst (λ t. Grew net s t told told'') same
-        (grew_then net s (play net rooms s (take i bs)) (turn net rooms (play net rooms s (take i bs)) b) told told' told'' p.1 q.2))
+            (grew_then net s (play net rooms s (take i bs)) (turn net rooms (play net rooms s (take i bs)) b) told told' told'' p.1 q.2),
+      )
 
 -- ---- what stays
 
@@ -127,7 +130,6 @@ lists_same n m told e h = subst (λ k. HasLists k told) e h
 -- ---- events
 
 module _ {B : Type 0} (kind : B → Kind) (stands : B → Streams → ℕ → Type 0) where
-
   pub onwards_none : (m : Held B) (told : Lists) → Onwards kind stands m told m told
   onwards_none m told storages g caps s h = (s, ([], refl), h, grew_same (net_of storages g) s told)
 
@@ -140,9 +142,12 @@ module _ {B : Type 0} (kind : B → Kind) (stands : B → Streams → ℕ → Ty
       let net = net_of storages g in
       let rooms = rooms_of caps in
       let p = first storages g caps s h in
-      let q = next storages g caps p.0 p.2 in
-      (q.0, (p.1.0 ++ q.1.0, q.1.1 ∙ ap (λ (x : State). play net rooms x q.1.0) p.1.1 ∙ sym (play_append net rooms s p.1.0 q.1.0)), q.2,
-        grew_then net s p.0 q.0 told told' told'' p.3 q.3)
+      let q = next storages g caps p.0 p.2 in (
+        q.0,
+        (p.1.0 ++ q.1.0, q.1.1 ∙ ap (λ (x : State). play net rooms x q.1.0) p.1.1 ∙ sym (play_append net rooms s p.1.0 q.1.0)),
+        q.2,
+        grew_then net s p.0 q.0 told told' told'' p.3 q.3,
+      )
 
   pub onwards_turned : (b : ℕ) (moved : Bool) (m : Held B) (told : Lists) (m' : Held B) (told' : Lists)
       → Turned kind stands b moved m told m' told' → Onwards kind stands m told m' told'

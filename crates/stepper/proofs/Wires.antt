@@ -7,8 +7,8 @@ use Rattle.std.proofs.lemmas.List.{get_or_past}
 use Rattle.stream_tokens.specs.declared.Token.{Token}
 use Rattle.sam_model.specs.Children.{Ranked}
 use Rattle.block_core.specs.Move.{Move, Taking, Putting, takes, puts}
-use Rattle.block_core.specs.Ports.{Streams, port}
-use Rattle.block_core.specs.Kind.{Kind, moves, outputs, ins_of, outs_of}
+use Rattle.block_core.specs.Ports.{port}
+use Rattle.block_core.specs.Kind.{moves, ins_of, outs_of}
 use Rattle.block_core.proofs.All.{all-pass}
 use Rattle.block_core.proofs.Arity.{take-in-range, put-in-range}
 use Rattle.graph.specs.declared.graphs.Graph.{Graph}
@@ -16,11 +16,11 @@ use Rattle.graph.specs.declared.graphs.Block.{Block}
 use Rattle.graph.specs.declared.graphs.Kind.{Kind as BlockKind}
 use Rattle.graph.specs.declared.graphs.Kind.TheVariants.{Root, Scan, Repeat, Cast, Drain, Intersect, Union, Array, Mul, Add, Sub, Const, SumScalar, SumVector, SumMatrix, DropValue, DropFiber, Fill, WriteLevel, WriteValue}
 use Rattle.graph.specs.Meaning.{meaning}
-use Rattle.graph.specs.Wiring.{block, channel, into, out_of, no_block, WellFormed}
+use Rattle.graph.specs.Wiring.{block, channel, no_block, WellFormed}
 use Rattle.graph.specs.WholeStreams.{whole_stream, whole_inputs, Consistent}
 use Rattle.graph.specs.Standing.{block_moves}
 use Rattle.graph.proofs.Streams.{streams-are-given}
-use Rattle.plays.specs.Net.{Net, Wired}
+use Rattle.plays.specs.Net.{Wired}
 use Rattle.stepper.specs.NetOf.{net_of}
 
 -- a kind has as many ports whatever the tensors are

@@ -1,6 +1,6 @@
 -- What a wish says of the next move.
-use Rattle.std.specs.Prelude.{◌≡◌, ◌<◌, ◌≤◌, ℕ, zero, suc, List, [], ◌∷◌, length, drop, slice_get, Some, refl}
-use Rattle.std.proofs.Common.{arith, sym, ◌∙◌, ap}
+use Rattle.std.specs.Prelude.{◌≡◌, ◌≤◌, ℕ, zero, suc, List, [], ◌∷◌, length, drop, slice_get, Some, refl}
+use Rattle.std.proofs.Common.{arith, ap}
 use Rattle.stream_tokens.specs.declared.Token.{Token}
 use Rattle.block_core.specs.declared.Wish.TheVariants.{Take, Put, Finished}
 use Rattle.block_core.specs.Move.{Move, Taking, Putting, wish_of}

@@ -1,5 +1,5 @@
 -- Where a machine stands.
-use Rattle.std.specs.Prelude.{◌≡◌, ◌<◌, ◌≤◌, ℕ, ◌+◌, ◌-◌, ◌^◌, min, List, length, slice_get, get_or, Option, Some}
+use Rattle.std.specs.Prelude.{◌≡◌, ◌<◌, ℕ, ◌+◌, ◌-◌, ◌^◌, min, List, length, slice_get, get_or, Option, Some}
 use Rattle.sam_model.specs.Children.{Ranked}
 use Rattle.block_core.specs.Ports.{Streams}
 use Rattle.block_core.specs.Kind.{Kind}

@@ -1,5 +1,5 @@
 -- How a run ends.
-use Rattle.std.specs.Prelude.{◌≡◌, ℕ, zero, suc, List, [], ◌∷◌, ◌++◌, slice_get, Option, Some, None, true, false}
+use Rattle.std.specs.Prelude.{ℕ, zero, suc, List, [], ◌∷◌, ◌++◌, slice_get, Option, Some, None, true, false}
 use Rattle.sam_base.specs.declared.faults.Waiting.{Waiting}
 use Rattle.block_core.specs.Move.{Move, Taking, Putting}
 use Rattle.plays.specs.Net.{Net, State}

@@ -1,6 +1,5 @@
 -- What a machine holds.
 use Rattle.std.specs.Prelude.{ℕ, ◌+◌, List, Option, get_or}
-use Rattle.std.specs.Coded.{Coded, code_by, coded×, coded_ℕ, coded_list, coded_option}
 use Rattle.stream_tokens.specs.declared.Token.{Token}
 
 -- the tokens that wait on a channel, and how many may wait, if there is a limit

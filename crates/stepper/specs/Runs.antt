@@ -1,5 +1,5 @@
 -- What a run of events does.
-use Rattle.std.specs.Prelude.{◌≡◌, ◌<◌, ℕ, List, Bool, true, false, length, take, Option}
+use Rattle.std.specs.Prelude.{◌≡◌, ℕ, List, Bool, take, Option}
 use Rattle.stream_tokens.specs.declared.Token.{Token}
 use Rattle.sam_model.specs.Children.{Ranked}
 use Rattle.block_core.specs.Ports.{Streams}

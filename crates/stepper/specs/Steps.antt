@@ -29,8 +29,8 @@ abbrev pub Wishes : {B : Type 0} → (B → Kind) → (B → Streams → ℕ →
 Wishes kind stands b w m = Wherever kind stands m (λ net rooms s. wish_of (drop (s b) (net.moves b)) ≡ w)
 
 -- the block has a move, and waits on this channel, for room or for a token
-abbrev pub Waits_on : {B : Type 0} → (B → Kind) → (B → Streams → ℕ → Type 0) → ℕ → ℕ → Bool → Held B → Type 0
-Waits_on kind stands b c full m = Wherever kind stands m (λ net rooms s. hindrance net rooms s b ≡ Some (c, full))
+abbrev pub WaitsOn : {B : Type 0} → (B → Kind) → (B → Streams → ℕ → Type 0) → ℕ → ℕ → Bool → Held B → Type 0
+WaitsOn kind stands b c full m = Wherever kind stands m (λ net rooms s. hindrance net rooms s b ≡ Some (c, full))
 
 -- the block has made all its moves
 abbrev pub Through : {B : Type 0} → (B → Kind) → (B → Streams → ℕ → Type 0) → ℕ → Held B → Type 0

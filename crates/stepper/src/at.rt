@@ -23,7 +23,12 @@ pub(crate) fn wish_at<B: BlockStep>(blocks: &[B], block: usize) -> Wish
 
 /// A block takes its next token.
 #[inline]
-pub(crate) fn take_at<B: BlockStep>(blocks: &mut Vec<B>, block: usize, port: u32, t: Token) -> Result<(), AllocError>
+pub(crate) fn take_at<B: BlockStep>(
+    blocks: &mut Vec<B>,
+    block: usize,
+    port: u32,
+    t: Token,
+) -> Result<(), AllocError>
     requires within { block < length blocks.old.items }
     requires may { ∥ ((x : B) × (s : Streams) × (n : ℕ) × (slice_get blocks.old.items block ≡ Some x) × B.stands x s n × (slice_get (moves (B.kind x) s) n ≡ Some (Taking port t))) ∥₁ }
     ensures moved { IfOk result (λ _. (x : B) → slice_get blocks.old.items block ≡ Some x → (y : B) × (blocks.new.items ≡ set blocks.old.items block y) × (B.kind y ≡ B.kind x) × ((s : Streams) (n : ℕ) → B.stands x s n → slice_get (moves (B.kind x) s) n ≡ Some (Taking port t) → B.stands y s (n + 1))) }

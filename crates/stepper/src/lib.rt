@@ -9,7 +9,8 @@ mod routes;
 mod tap;
 
 pub use laws::{
-    all_is_sent, always_part_way, graphs_are_wired, more_room_never_hurts, move_count, one_end, queues_are_part, room_suffices,
+    all_is_sent, always_part_way, graphs_are_wired, more_room_never_hurts, move_count, one_end,
+    queues_are_part, room_suffices,
 };
 pub use machine::{Capacities, Ending, Machine, Stepped};
 pub use tap::{KeepAll, NoTap, Tap};

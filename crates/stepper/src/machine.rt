@@ -64,7 +64,12 @@ impl<B: BlockStep> Model for Machine<B> {
 impl<B: BlockStep + Drop> Machine<B> {
     /// A machine before the first event, of a graph that is well formed and consistent, with its own blocks at their
     /// starts. Queues with a capacity take their memory here.
-    pub fn new(alloc: Global, g: &Graph, blocks: Vec<B>, caps: &Capacities) -> Result<Machine<B>, AllocError>
+    pub fn new(
+        alloc: Global,
+        g: &Graph,
+        blocks: Vec<B>,
+        caps: &Capacities,
+    ) -> Result<Machine<B>, AllocError>
         requires formed { WellFormed g.now }
         requires few_blocks { length g.now.blocks < 2 ^ 32 }
         requires few_channels { length g.now.channels < 2 ^ 32 }

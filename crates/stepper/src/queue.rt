@@ -103,7 +103,10 @@ impl Queue {
 }
 
 /// A queue for each channel, under these limits.
-pub(crate) fn queues_for(alloc: Global, rooms: &Items<Option<u32>>) -> Result<Vec<Queue>, AllocError>
+pub(crate) fn queues_for(
+    alloc: Global,
+    rooms: &Items<Option<u32>>,
+) -> Result<Vec<Queue>, AllocError>
     ensures number { IfOk result (λ queues. length queues.items ≡ length rooms.now) }
     ensures empty { IfOk result (λ queues. (c : ℕ) (q : Queued) → slice_get queues.items c ≡ Some q → (q.tokens ≡ []) × (q.room ≡ get_or rooms.now c None)) }
 {

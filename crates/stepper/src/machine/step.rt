@@ -4,7 +4,7 @@ ghost use Rattle.std.specs.Prelude.{◌≡◌, ◌<◌, ◌+◌, ◌-◌, ◌^�
 ghost use Rattle.stream_tokens.specs.declared.Token.{Token};
 ghost use Rattle.block_core.specs.declared.Wish.TheVariants.{Take as WishTake, Put as WishPut};
 ghost use Rattle.stepper.specs.Told.{HasLists};
-ghost use Rattle.stepper.specs.Steps.{Wishes, Waits_on, Through, Moved, SameShape, BoundedOuts};
+ghost use Rattle.stepper.specs.Steps.{Wishes, WaitsOn, Through, Moved, SameShape, BoundedOuts};
 ghost use Rattle.stepper.specs.Runs.{Turned};
 
 use super::{Machine, Stepped};
@@ -38,7 +38,7 @@ impl<B: BlockStep + Drop> Machine<B> {
         requires within { block < length self.old.blocks }
         requires wishes { Wishes B.kind B.stands block (WishTake port) self.old }
         ensures moved { result ≡ Ok Stepped.Moved → (told : Option (List (List Token))) → Moved B.kind B.stands block self.old told self.new told }
-        ensures blocked { (c : ℕ) (full : Bool) → result ≡ Ok (Stepped.Blocked c full) → (self.new ≡ self.old) × Waits_on B.kind B.stands block c full self.old }
+        ensures blocked { (c : ℕ) (full : Bool) → result ≡ Ok (Stepped.Blocked c full) → (self.new ≡ self.old) × WaitsOn B.kind B.stands block c full self.old }
         ensures no_end { result ≡ Ok Stepped.Ended → ⊥ }
         ensures refused { IfErr result (λ _. self.new ≡ self.old) }
         ensures same_shape { SameShape self.old self.new }
@@ -60,12 +60,18 @@ impl<B: BlockStep + Drop> Machine<B> {
 
     /// A block puts a token, where there is room. The queue's memory is taken before the tap is told.
     #[inline]
-    fn put<T: Tap>(&mut self, block: usize, port: u32, t: Token, tap: &mut T) -> Result<Stepped, AllocError>
+    fn put<T: Tap>(
+        &mut self,
+        block: usize,
+        port: u32,
+        t: Token,
+        tap: &mut T,
+    ) -> Result<Stepped, AllocError>
         requires within { block < length self.old.blocks }
         requires wishes { Wishes B.kind B.stands block (WishPut port t) self.old }
         requires lists { HasLists (length self.old.queues) (T.told tap.old) }
         ensures moved { result ≡ Ok Stepped.Moved → Moved B.kind B.stands block self.old (T.told tap.old) self.new (T.told tap.new) }
-        ensures blocked { (c : ℕ) (full : Bool) → result ≡ Ok (Stepped.Blocked c full) → (self.new ≡ self.old) × (T.told tap.new ≡ T.told tap.old) × Waits_on B.kind B.stands block c full self.old }
+        ensures blocked { (c : ℕ) (full : Bool) → result ≡ Ok (Stepped.Blocked c full) → (self.new ≡ self.old) × (T.told tap.new ≡ T.told tap.old) × WaitsOn B.kind B.stands block c full self.old }
         ensures no_end { result ≡ Ok Stepped.Ended → ⊥ }
         ensures refused { IfErr result (λ _. (self.new ≡ self.old) × (T.told tap.new ≡ T.told tap.old)) }
         ensures same_shape { SameShape self.old self.new }
@@ -82,7 +88,8 @@ impl<B: BlockStep + Drop> Machine<B> {
             });
         }
         push_at(&mut self.queues, place, t)?;
-        if let Err(error) = tap.on_put(channel, t) {
+        let told = tap.on_put(channel, t);
+        if let Err(error) = told {
             unpush_at(&mut self.queues, place);
             return Err(error);
         }
@@ -93,12 +100,17 @@ impl<B: BlockStep + Drop> Machine<B> {
 
     /// A block does what it wishes, where it can.
     #[inline]
-    pub(super) fn act<T: Tap>(&mut self, block: usize, wish: Wish, tap: &mut T) -> Result<Stepped, AllocError>
+    pub(super) fn act<T: Tap>(
+        &mut self,
+        block: usize,
+        wish: Wish,
+        tap: &mut T,
+    ) -> Result<Stepped, AllocError>
         requires within { block < length self.old.blocks }
         requires wishes { Wishes B.kind B.stands block wish self.old }
         requires lists { HasLists (length self.old.queues) (T.told tap.old) }
         ensures moved { result ≡ Ok Stepped.Moved → Moved B.kind B.stands block self.old (T.told tap.old) self.new (T.told tap.new) }
-        ensures blocked { (c : ℕ) (full : Bool) → result ≡ Ok (Stepped.Blocked c full) → (self.new ≡ self.old) × (T.told tap.new ≡ T.told tap.old) × Waits_on B.kind B.stands block c full self.old }
+        ensures blocked { (c : ℕ) (full : Bool) → result ≡ Ok (Stepped.Blocked c full) → (self.new ≡ self.old) × (T.told tap.new ≡ T.told tap.old) × WaitsOn B.kind B.stands block c full self.old }
         ensures ended { result ≡ Ok Stepped.Ended → (self.new ≡ self.old) × (T.told tap.new ≡ T.told tap.old) × Through B.kind B.stands block self.old }
         ensures refused { IfErr result (λ _. (self.new ≡ self.old) × (T.told tap.new ≡ T.told tap.old)) }
         ensures same_shape { SameShape self.old self.new }
@@ -122,7 +134,7 @@ impl<B: BlockStep + Drop> Machine<B> {
         requires within { block < length self.old.blocks }
         requires lists { HasLists (length self.old.queues) (T.told tap.old) }
         ensures moved { result ≡ Ok Stepped.Moved → Moved B.kind B.stands block self.old (T.told tap.old) self.new (T.told tap.new) }
-        ensures blocked { (c : ℕ) (full : Bool) → result ≡ Ok (Stepped.Blocked c full) → (self.new ≡ self.old) × (T.told tap.new ≡ T.told tap.old) × Waits_on B.kind B.stands block c full self.old }
+        ensures blocked { (c : ℕ) (full : Bool) → result ≡ Ok (Stepped.Blocked c full) → (self.new ≡ self.old) × (T.told tap.new ≡ T.told tap.old) × WaitsOn B.kind B.stands block c full self.old }
         ensures ended { result ≡ Ok Stepped.Ended → (self.new ≡ self.old) × (T.told tap.new ≡ T.told tap.old) × Through B.kind B.stands block self.old }
         ensures refused { IfErr result (λ _. (self.new ≡ self.old) × (T.told tap.new ≡ T.told tap.old)) }
         ensures same_shape { SameShape self.old self.new }
@@ -137,7 +149,12 @@ impl<B: BlockStep + Drop> Machine<B> {
 
     /// A block does what it wishes, where it can. The answer says whether it could.
     #[inline]
-    pub(super) fn attempt<T: Tap>(&mut self, block: usize, wish: Wish, tap: &mut T) -> Result<bool, AllocError>
+    pub(super) fn attempt<T: Tap>(
+        &mut self,
+        block: usize,
+        wish: Wish,
+        tap: &mut T,
+    ) -> Result<bool, AllocError>
         requires within { block < length self.old.blocks }
         requires wishes { Wishes B.kind B.stands block wish self.old }
         requires lists { HasLists (length self.old.queues) (T.told tap.old) }

@@ -14,7 +14,10 @@ did_put-requires g c =
 
 pub returns-clause-moved : goal.returns-clause-moved
 returns-clause-moved g c = λ x at.
-    let e = same_some x c.index_mut.result.now (sym at ∙ slice_get_read _ _ c.args.block c.index_mut.result.now refl c.requires.within c.index_mut.ensures.value) in
-    (c.did_put.new.self, refl, c.did_put.ensures.same_kind ∙ ap g.B.BlockStep.kind (sym e),
+    let e = same_some x c.index_mut.result.now (sym at ∙ slice_get_read _ _ c.args.block c.index_mut.result.now refl c.requires.within c.index_mut.ensures.value) in (
+      c.did_put.new.self,
+      refl,
+      c.did_put.ensures.same_kind ∙ ap g.B.BlockStep.kind (sym e),
       λ s n p t st k. c.did_put.ensures.moved s n p t (subst (λ z. g.B.BlockStep.stands z s n) e st)
-        (subst (λ z. slice_get (moves (g.B.BlockStep.kind z) s) n ≡ Some (Putting p t)) e k))
+          (subst (λ z. slice_get (moves (g.B.BlockStep.kind z) s) n ≡ Some (Putting p t)) e k),
+    )

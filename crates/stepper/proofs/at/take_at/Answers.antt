@@ -16,10 +16,13 @@ take-requires g c =
 pub returns-clause-moved : goal.returns-clause-moved
 returns-clause-moved g c =
     IfOk-weaker c.take.result _ _ (λ _ m x at.
-    let e = same_some x c.index_mut.result.now (sym at ∙ slice_get_read _ _ c.args.block c.index_mut.result.now refl c.requires.within c.index_mut.ensures.value) in
-    (c.take.new.self, refl, c.take.ensures.same_kind ∙ ap g.B.BlockStep.kind (sym e),
+    let e = same_some x c.index_mut.result.now (sym at ∙ slice_get_read _ _ c.args.block c.index_mut.result.now refl c.requires.within c.index_mut.ensures.value) in (
+      c.take.new.self,
+      refl,
+      c.take.ensures.same_kind ∙ ap g.B.BlockStep.kind (sym e),
       λ s n st k. m s n (subst (λ z. g.B.BlockStep.stands z s n) e st)
-        (subst (λ z. slice_get (moves (g.B.BlockStep.kind z) s) n ≡ Some (Taking c.args.port c.args.t)) e k)))
+          (subst (λ z. slice_get (moves (g.B.BlockStep.kind z) s) n ≡ Some (Taking c.args.port c.args.t)) e k),
+    ))
     c.take.ensures.moved
 
 pub returns-clause-sure : goal.returns-clause-sure

@@ -1,4 +1,3 @@
-use Rattle.std.proofs.Common.{◌≡◌, ◌∙◌, sym, ap, subst, length}
 use Rattle.stepper.proofs.Turns.{onwards_then}
 use Rattle.stepper.proofs.machine.Machine.advance.Goals as goal
 

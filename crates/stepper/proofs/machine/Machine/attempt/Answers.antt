@@ -1,4 +1,4 @@
-use Rattle.std.proofs.Common.{◌≡◌, ap, Ok}
+use Rattle.std.proofs.Common.{ap, Ok}
 use Rattle.stepper.proofs.Turns.{turned_blocked, turned_ended}
 use Rattle.stepper.proofs.machine.Machine.attempt.Goals as goal
 

@@ -1,4 +1,4 @@
-use Rattle.std.proofs.Common.{◌≡◌, ◌∙◌, sym, ap, length, List, []}
+use Rattle.std.proofs.Common.{◌∙◌, sym, ap, length, List}
 use Rattle.sam_base.specs.declared.faults.Waiting.{Waiting}
 use Rattle.stepper.specs.NetOf.{net_of, rooms_of}
 use Rattle.stepper.proofs.Stepping.{same_stalled}
@@ -12,6 +12,7 @@ returns-then-len-eq0-clause-finished g c = λ z storages gr caps s h.
 
 pub returns-clause-stalled : goal.returns-clause-stalled
 returns-clause-stalled g c = λ list z storages gr caps s h.
-    let e = c.in_ok-list.ensures storages gr caps s h in
-    (same_stalled c.in_ok-list.list list z ∙ e,
-      some_waiting (net_of storages gr) s (λ none. c.if-len-eq0.false (c.len.ensures ∙ ap (λ (xs : List Waiting). length xs) (e ∙ none))))
+    let e = c.in_ok-list.ensures storages gr caps s h in (
+      same_stalled c.in_ok-list.list list z ∙ e,
+      some_waiting (net_of storages gr) s (λ none. c.if-len-eq0.false (c.len.ensures ∙ ap (λ (xs : List Waiting). length xs) (e ∙ none))),
+    )

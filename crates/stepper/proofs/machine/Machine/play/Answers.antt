@@ -1,4 +1,4 @@
-use Rattle.std.proofs.Common.{◌≡◌, ◌∙◌, sym, ap, subst, arith, length, get_or, take, List, ℕ, refl, All, ◌<◌}
+use Rattle.std.proofs.Common.{sym, subst, arith, length, List, ℕ, All, ◌<◌}
 use Rattle.std.proofs.lemmas.List.Elements.{All-get_or}
 use Rattle.stepper.proofs.Turns.{played_more, shape_then, lists_same}
 use Rattle.stepper.proofs.machine.Machine.play.Goals as goal
@@ -12,9 +12,10 @@ turn-requires-clause-within g c =
     omega (arith, w, e)
 
 pub loop-block-preserved : goal.loop-block-preserved
-loop-block-preserved g c =
-    (played_more g.B.BlockStep.kind g.B.BlockStep.stands c.as_slice-block-items.result.now c.loop-block.block-index c.in_ok-_moved._moved
+loop-block-preserved g c = (
+  played_more g.B.BlockStep.kind g.B.BlockStep.stands c.as_slice-block-items.result.now c.loop-block.block-index c.in_ok-_moved._moved
       c.args.self.now (g.T.Tap.told c.args.tap.now) c.loop-block.self (g.T.Tap.told c.loop-block.tap) c.turn.new.self (g.T.Tap.told c.turn.new.tap)
       c.loop-block-test.true c.loop-block.invariant.0 c.in_ok-_moved.ensures.turned,
-      shape_then c.args.self.now c.loop-block.self c.turn.new.self c.loop-block.invariant.1 c.turn.ensures.same_shape,
-      lists_same _ _ (g.T.Tap.told c.turn.new.tap) c.loop-block.invariant.1.1 c.turn.ensures.lists_stay)
+  shape_then c.args.self.now c.loop-block.self c.turn.new.self c.loop-block.invariant.1 c.turn.ensures.same_shape,
+  lists_same _ _ (g.T.Tap.told c.turn.new.tap) c.loop-block.invariant.1.1 c.turn.ensures.lists_stay,
+)

@@ -1,4 +1,4 @@
-use Rattle.std.proofs.Common.{◌≡◌, ◌<◌, ◌∙◌, sym, ap, subst, length, ℕ, Ok, false, get_or, below_more, arith}
+use Rattle.std.proofs.Common.{◌≡◌, ◌∙◌, ap, subst, Ok, false, get_or, below_more, arith}
 use Rattle.std.proofs.lemmas.Option.{get_or_from_slice_get}
 use Rattle.plays.specs.Net.{can}
 use Rattle.stepper.specs.NetOf.{net_of, rooms_of}
@@ -11,7 +11,7 @@ loop-n-preserved g c =
     let i = c.press.ensures.idle (c.in_ok-press.was ∙ ap Ok c.if-branch.false) in
     let at = get_or_from_slice_get c.loop-n.self.routes.order c.loop-n.n c.visited-block.result 0 c.visited-block.ensures.is in
     let cannot = subst (λ m. Wherever g.B.BlockStep.kind g.B.BlockStep.stands m (λ net rooms s. can net rooms s (get_or m.routes.order c.loop-n.n 0) ≡ false)) c.loop-n.invariant.0
-        (λ storages gr caps s h. ap (can (net_of storages gr) (rooms_of caps) s) at ∙ i.2 storages gr caps s h) in
+    (λ storages gr caps s h. ap (can (net_of storages gr) (rooms_of caps) s) at ∙ i.2 storages gr caps s h) in
     (i.0 ∙ c.loop-n.invariant.0, i.1 ∙ c.loop-n.invariant.1, below_more _ _ c.loop-n.invariant.2 cannot)
 
 pub returns-clause-idle : goal.returns-clause-idle

@@ -1,7 +1,6 @@
-use Rattle.std.proofs.Common.{◌≡◌, ℕ, ◌<◌, false, length, get_or}
+use Rattle.std.proofs.Common.{◌≡◌, ℕ, ◌<◌, false, get_or}
 use Rattle.plays.specs.Net.{can}
 use Rattle.stepper.specs.AtState.{Wherever}
-use Rattle.stepper.specs.Told.{HasLists}
 use Rattle.stepper.proofs.machine.Machine.press_first.Given as goal
 
 abbrev pub invariant-loop-n : goal.invariant-loop-n

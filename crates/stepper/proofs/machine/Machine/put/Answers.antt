@@ -1,7 +1,6 @@
-use Rattle.std.proofs.Common.{◌≡◌, ◌<◌, ◌∙◌, sym, ap, subst, refl, slice_get, length, arith, Option, List, [], ◌∷◌, ◌++◌, None, Some, true, false}
+use Rattle.std.proofs.Common.{◌≡◌, ◌<◌, ◌∙◌, sym, ap, subst, refl, slice_get, length, arith, [], ◌∷◌, ◌++◌, Some, true}
 use Rattle.std.proofs.lemmas.Bool.{false≢true}
 use Rattle.std.proofs.lemmas.Option.{slice_get_read}
-use Rattle.stream_tokens.specs.declared.Token.{Token}
 use Rattle.block_core.specs.declared.Wish.TheVariants.{Put}
 use Rattle.plays.specs.Net.{has_room}
 use Rattle.stepper.specs.Held.{Queued, at_port}
@@ -9,7 +8,7 @@ use Rattle.stepper.specs.Routes.{routes_of}
 use Rattle.stepper.specs.AtState.{AtState, Somewhere}
 use Rattle.stepper.specs.Told.{HasLists}
 use Rattle.stepper.specs.Steps.{Wishes}
-use Rattle.stepper.proofs.Lists.{same_some, some_in, get_set_here}
+use Rattle.stepper.proofs.Lists.{same_some, get_set_here}
 use Rattle.stepper.proofs.Stepping.{same_blocked}
 use Rattle.stepper.proofs.Taking.{somewhere_after}
 use Rattle.stepper.proofs.Putting.{not_full, put_block, put_place, put_queue, put_hindered, put_may, put, put_back, lists_fewer}
@@ -37,10 +36,13 @@ returns-then-is_full-clause-blocked g c = λ c' full z.
     let l = put_queue g.B.BlockStep.kind g.B.BlockStep.stands _ c.args.block c.args.port c.args.t c.self.invariant wishes in
     let lq : c.at-channel.result < length c.self.inside.queues.items = omega (arith, l, c.at-channel.ensures) in
     let q = slice_get_read _ _ c.at-channel.result c.index.result.now refl lq c.index.ensures in
-    let hindered = put_hindered g.B.BlockStep.kind g.B.BlockStep.stands _ c.args.block c.args.port c.args.t wishes c.at-channel.result c.at-channel.ensures c.index.result.now q (sym c.is_full.ensures ∙ c.if-is_full.true) in
-    (refl, refl, λ storages gr caps s h.
-      hindered storages gr caps s (subst (AtState g.B.BlockStep.kind g.B.BlockStep.stands storages gr caps s) (sym c.self.view_is) h)
-      ∙ same_blocked c.at-channel.result c' true full z)
+    let hindered = put_hindered g.B.BlockStep.kind g.B.BlockStep.stands _ c.args.block c.args.port c.args.t wishes c.at-channel.result c.at-channel.ensures c.index.result.now q (sym c.is_full.ensures ∙ c.if-is_full.true) in (
+      refl,
+      refl,
+      λ storages gr caps s h.
+          hindered storages gr caps s (subst (AtState g.B.BlockStep.kind g.B.BlockStep.stands storages gr caps s) (sym c.self.view_is) h)
+          ∙ same_blocked c.at-channel.result c' true full z,
+    )
 
 pub push_at-requires-clause-within : goal.push_at-requires-clause-within
 push_at-requires-clause-within g c =
@@ -69,11 +71,11 @@ returns-in_err-push_at-clause-sure g c = λ bounded sure.
     let lq : c.at-channel.result < length c.self.inside.queues.items = omega (arith, l, c.at-channel.ensures) in
     let q = slice_get_read _ _ c.at-channel.result c.index.result.now refl lq c.index.ensures in
     let at = subst (λ m. slice_get m.queues (at_port m.routes.outs c.args.block c.args.port) ≡ Some c.index.result.now) c.self.view_is
-        (ap (slice_get c.self.inside.queues.items) (sym c.at-channel.ensures) ∙ q) in
+    (ap (slice_get c.self.inside.queues.items) (sym c.at-channel.ensures) ∙ q) in
     absurd (false≢true (c.in_err-push_at.ensures.sure c.index.result.now q (bounded c.args.port c.index.result.now at)))
 
-pub on_put-requires : goal.on_put-requires
-on_put-requires g c =
+pub on_put-told-requires : goal.on_put-told-requires
+on_put-told-requires g c =
     let wishes = subst (Wishes g.B.BlockStep.kind g.B.BlockStep.stands c.args.block (Put c.args.port c.args.t)) (sym c.self.view_is) c.requires.wishes in
     let l = put_queue g.B.BlockStep.kind g.B.BlockStep.stands _ c.args.block c.args.port c.args.t c.self.invariant wishes in
     let lq : c.at-channel.result < length c.self.inside.queues.items = omega (arith, l, c.at-channel.ensures) in
@@ -94,9 +96,9 @@ invariant_of-self-in-Err g c =
     let lq : c.at-channel.result < length c.self.inside.queues.items = omega (arith, l, c.at-channel.ensures) in
     let q = slice_get_read _ _ c.at-channel.result c.index.result.now refl lq c.index.ensures in
     let back = put_back c.self.inside.queues.items c.push_at.new.queues.items c.unpush_at.new.queues.items c.at-channel.result c.index.result.now c.args.t q
-        (c.in_ok-push_at.ensures.ok c.index.result.now q)
-        (c.unpush_at.ensures.left (record { tokens = c.index.result.now.tokens ++ c.args.t ∷ []; room = c.index.result.now.room })
-          (ap (λ z. slice_get z c.at-channel.result) (c.in_ok-push_at.ensures.ok c.index.result.now q) ∙ get_set_here c.self.inside.queues.items c.at-channel.result _ lq)) in
+    (c.in_ok-push_at.ensures.ok c.index.result.now q)
+    (c.unpush_at.ensures.left (record { tokens = c.index.result.now.tokens ++ c.args.t ∷ []; room = c.index.result.now.room })
+    (ap (λ z. slice_get z c.at-channel.result) (c.in_ok-push_at.ensures.ok c.index.result.now q) ∙ get_set_here c.self.inside.queues.items c.at-channel.result _ lq)) in
     subst (λ z. ∥ (Somewhere g.B.BlockStep.kind g.B.BlockStep.stands (record { blocks = c.self.inside.blocks.items; queues = z; moves = c.self.inside.moves; routes = routes_of c.self.inside.plan })) ∥₁)
     (sym back) c.self.invariant
 
@@ -107,11 +109,12 @@ returns-in-Err-clause-refused g c =
     let lq : c.at-channel.result < length c.self.inside.queues.items = omega (arith, l, c.at-channel.ensures) in
     let q = slice_get_read _ _ c.at-channel.result c.index.result.now refl lq c.index.ensures in
     let back = put_back c.self.inside.queues.items c.push_at.new.queues.items c.unpush_at.new.queues.items c.at-channel.result c.index.result.now c.args.t q
-        (c.in_ok-push_at.ensures.ok c.index.result.now q)
-        (c.unpush_at.ensures.left (record { tokens = c.index.result.now.tokens ++ c.args.t ∷ []; room = c.index.result.now.room })
-          (ap (λ z. slice_get z c.at-channel.result) (c.in_ok-push_at.ensures.ok c.index.result.now q) ∙ get_set_here c.self.inside.queues.items c.at-channel.result _ lq)) in
-    (ap (λ z. record { blocks = c.self.inside.blocks.items; queues = z; moves = c.self.inside.moves; routes = routes_of c.self.inside.plan }) back ∙ c.self.view_is,
-      c.in-Err.ensures.refused)
+    (c.in_ok-push_at.ensures.ok c.index.result.now q)
+    (c.unpush_at.ensures.left (record { tokens = c.index.result.now.tokens ++ c.args.t ∷ []; room = c.index.result.now.room })
+    (ap (λ z. slice_get z c.at-channel.result) (c.in_ok-push_at.ensures.ok c.index.result.now q) ∙ get_set_here c.self.inside.queues.items c.at-channel.result _ lq)) in (
+      ap (λ z. record { blocks = c.self.inside.blocks.items; queues = z; moves = c.self.inside.moves; routes = routes_of c.self.inside.plan }) back ∙ c.self.view_is,
+      c.in-Err.ensures.refused,
+    )
 
 pub did_put_at-requires-clause-may : goal.did_put_at-requires-clause-may
 did_put_at-requires-clause-may g c =
@@ -127,10 +130,10 @@ invariant_of-self-2 g c =
     let lq : c.at-channel.result < length c.self.inside.queues.items = omega (arith, l, c.at-channel.ensures) in
     let q = slice_get_read _ _ c.at-channel.result c.index.result.now refl lq c.index.ensures in
     let lists = subst (λ m. HasLists (length m.queues) (g.T.Tap.told c.args.tap.now)) (sym c.self.view_is) c.requires.lists in
-    somewhere_after g.B.BlockStep.kind g.B.BlockStep.stands _ _ c.args.block (g.T.Tap.told c.args.tap.now) (g.T.Tap.told c.on_put.new.self)
+    somewhere_after g.B.BlockStep.kind g.B.BlockStep.stands _ _ c.args.block (g.T.Tap.told c.args.tap.now) (g.T.Tap.told c.on_put-told.new.self)
     (put g.B.BlockStep.kind g.B.BlockStep.stands _ c.args.block c.args.port c.args.t wishes lb c.at-channel.result c.at-channel.ensures c.index.result.now q (sym c.is_full.ensures ∙ c.if-is_full.false)
     _ c.did_put_at.ensures.moved _ (c.in_ok-push_at.ensures.ok c.index.result.now q) _ c.one_more-self-inside.ensures
-    (g.T.Tap.told c.args.tap.now) (g.T.Tap.told c.on_put.new.self) lists c.in_default.ensures.ok)
+    (g.T.Tap.told c.args.tap.now) (g.T.Tap.told c.on_put-told.new.self) lists c.in_default.ensures.ok)
     c.self.invariant
 
 pub returns-clause-moved : goal.returns-clause-moved
@@ -143,5 +146,5 @@ returns-clause-moved g c = λ z storages gr caps s h.
     let lists = subst (λ m. HasLists (length m.queues) (g.T.Tap.told c.args.tap.now)) (sym c.self.view_is) c.requires.lists in
     put g.B.BlockStep.kind g.B.BlockStep.stands _ c.args.block c.args.port c.args.t wishes lb c.at-channel.result c.at-channel.ensures c.index.result.now q (sym c.is_full.ensures ∙ c.if-is_full.false)
     _ c.did_put_at.ensures.moved _ (c.in_ok-push_at.ensures.ok c.index.result.now q) _ c.one_more-self-inside.ensures
-    (g.T.Tap.told c.args.tap.now) (g.T.Tap.told c.on_put.new.self) lists c.in_default.ensures.ok
+    (g.T.Tap.told c.args.tap.now) (g.T.Tap.told c.on_put-told.new.self) lists c.in_default.ensures.ok
     storages gr caps s (subst (AtState g.B.BlockStep.kind g.B.BlockStep.stands storages gr caps s) (sym c.self.view_is) h)

@@ -1,12 +1,10 @@
-use Rattle.std.proofs.Common.{◌≡◌, ◌<◌, ◌∙◌, sym, ap, subst, refl, slice_get, length, arith, Option, List, None, Some, false}
-use Rattle.std.proofs.Math.Logic.{∥∥₁_map}
+use Rattle.std.proofs.Common.{◌≡◌, ◌<◌, ◌∙◌, sym, ap, subst, refl, slice_get, length, arith, None, Some, false}
 use Rattle.std.proofs.lemmas.Bool.{false≢true}
 use Rattle.std.proofs.lemmas.Option.{slice_get_read}
-use Rattle.stream_tokens.specs.declared.Token.{Token}
 use Rattle.block_core.specs.declared.Wish.TheVariants.{Take}
 use Rattle.stepper.specs.Routes.{routes_of}
 use Rattle.stepper.specs.AtState.{AtState, Somewhere}
-use Rattle.stepper.specs.Steps.{Wishes, Moved, Waits_on}
+use Rattle.stepper.specs.Steps.{Wishes}
 use Rattle.stepper.proofs.Lists.{some_in}
 use Rattle.stepper.proofs.Stepping.{same_blocked}
 use Rattle.stepper.proofs.Taking.{take_block, take_place, take_queue, take_hindered, take_may, took, somewhere_after}
@@ -34,10 +32,12 @@ returns-in_default-clause-blocked g c = λ c' full z.
     let l = take_queue g.B.BlockStep.kind g.B.BlockStep.stands _ c.args.block c.args.port c.self.invariant wishes in
     let lq : c.at-channel.result < length c.self.inside.queues.items = omega (arith, l, c.at-channel.ensures) in
     let q = slice_get_read _ _ c.at-channel.result c.index.result.now refl lq c.index.ensures in
-    let hindered = take_hindered g.B.BlockStep.kind g.B.BlockStep.stands _ c.args.block c.args.port wishes c.at-channel.result c.at-channel.ensures c.index.result.now q (sym c.front.ensures ∙ c.in_default.is) in
-    (refl, λ storages gr caps s h.
-      hindered storages gr caps s (subst (AtState g.B.BlockStep.kind g.B.BlockStep.stands storages gr caps s) (sym c.self.view_is) h)
-      ∙ same_blocked c.at-channel.result c' false full z)
+    let hindered = take_hindered g.B.BlockStep.kind g.B.BlockStep.stands _ c.args.block c.args.port wishes c.at-channel.result c.at-channel.ensures c.index.result.now q (sym c.front.ensures ∙ c.in_default.is) in (
+      refl,
+      λ storages gr caps s h.
+          hindered storages gr caps s (subst (AtState g.B.BlockStep.kind g.B.BlockStep.stands storages gr caps s) (sym c.self.view_is) h)
+          ∙ same_blocked c.at-channel.result c' false full z,
+    )
 
 pub take_at-requires-clause-may : goal.take_at-requires-clause-may
 take_at-requires-clause-may g c =
@@ -93,7 +93,8 @@ returns-clause-moved g c = λ z told storages gr caps s h.
     storages gr caps s (subst (AtState g.B.BlockStep.kind g.B.BlockStep.stands storages gr caps s) (sym c.self.view_is) h)
 
 pub returns-clause-same_shape : goal.returns-clause-same_shape
-returns-clause-same_shape g c =
-    (c.take_at.ensures.same_length ∙ ap (λ z. length z.blocks) c.self.view_is,
-      c.pop_at.ensures.same_length ∙ ap (λ z. length z.queues) c.self.view_is,
-      ap (λ z. z.routes) c.self.view_is)
+returns-clause-same_shape g c = (
+  c.take_at.ensures.same_length ∙ ap (λ z. length z.blocks) c.self.view_is,
+  c.pop_at.ensures.same_length ∙ ap (λ z. length z.queues) c.self.view_is,
+  ap (λ z. z.routes) c.self.view_is,
+)

@@ -1,4 +1,4 @@
-use Rattle.std.proofs.Common.{◌≡◌, ◌∙◌, sym, ap, subst, length, arith}
+use Rattle.std.proofs.Common.{ap, length, arith}
 use Rattle.stepper.proofs.Stalling.{few_blocks}
 use Rattle.stepper.proofs.machine.Machine.waiting.Goals as goal
 

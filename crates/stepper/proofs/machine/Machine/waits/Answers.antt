@@ -1,5 +1,5 @@
-use Rattle.std.proofs.Common.{◌≡◌, ◌∙◌, sym, ap, subst}
-use Rattle.block_core.specs.declared.Wish.TheVariants.{Take, Put, Finished}
+use Rattle.std.proofs.Common.{◌∙◌, sym, subst}
+use Rattle.block_core.specs.declared.Wish.TheVariants.{Take, Put}
 use Rattle.stepper.specs.AtState.{AtState}
 use Rattle.stepper.specs.Steps.{Wishes}
 use Rattle.stepper.proofs.Taking.{take_block, take_place}

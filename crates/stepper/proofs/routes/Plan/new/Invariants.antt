@@ -1,4 +1,3 @@
-use Rattle.std.proofs.Common.{length}
 use Rattle.graph.specs.Wiring.{block}
 use Rattle.stepper.specs.Routes.{table_of}
 use Rattle.stepper.specs.AtState.{Lists}
