@@ -28,21 +28,18 @@ pub block_is : (g : Graph) (blocks : List Block) (n : ℕ) (x : Block) → block
 block_is g blocks n x e inside is = rw (sym e) (get_or_read_under blocks n (length blocks) x no_block is inside refl)
 
 module _ {B : Type 0} (kind : B → Kind) (stands : B → Streams → ℕ → Type 0) (storages : List Ranked) (g : Graph) where
-  pub made_none : (blocks : List B) → blocks ≡ [] → Made kind stands storages g 0 blocks
-  made_none blocks e = rw e (record { number = refl; each = λ b x at. absurd (cc) })
-
-  -- what holds at each place of a list and of one more element
-  at_end : (blocks : List B) (y : B) (b : ℕ) (x : B) → slice_get (blocks ++ y ∷ []) b ≡ Some x
+  -- an element of a longer list was there before, or is the new one
+  before_or_last : (blocks : List B) (y : B) (b : ℕ) (x : B) → slice_get (blocks ++ y ∷ []) b ≡ Some x
       → (slice_get blocks b ≡ Some x) ⊎ ((b ≡ length blocks) × (y ≡ x))
-  at_end [] y zero x e = inr (refl, cc)
-  at_end [] y (suc b) x e = absurd (cc)
-  at_end (z ∷ zs) y zero x e = inl e
-  at_end (z ∷ zs) y (suc b) x e = elim (at_end zs y b x e) [ inl h ↦ inl h | inr h ↦ inr (ap (λ n. suc n) h.0, h.1) ]
+  before_or_last [] y zero x e = inr (refl, cc)
+  before_or_last [] y (suc b) x e = absurd (cc)
+  before_or_last (z ∷ zs) y zero x e = inl e
+  before_or_last (z ∷ zs) y (suc b) x e = elim (before_or_last zs y b x e) [ inl h ↦ inl h | inr h ↦ inr (ap (λ n. suc n) h.0, h.1) ]
 
   pub made_more : (n : ℕ) (blocks blocks' : List B) (y : B) → Made kind stands storages g n blocks
       → IsNew kind stands (meaning storages (block g n).kind) y → blocks' ≡ blocks ++ y ∷ []
       → Made kind stands storages g (n + 1) blocks'
-  made_more n blocks blocks' y m new e = rw e (record { number = rw (length-append, m.number) refl; each = λ b x at. either b x (at_end blocks y b x at) })
+  made_more n blocks blocks' y m new e = rw e (record { number = rw (length-append, m.number) refl; each = λ b x at. either b x (before_or_last blocks y b x at) })
     where
       either : (b : ℕ) (x : B) → (slice_get blocks b ≡ Some x) ⊎ ((b ≡ length blocks) × (y ≡ x)) → IsNew kind stands (meaning storages (block g b).kind) x
       either b x (inl h) = m.each b x h

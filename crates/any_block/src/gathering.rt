@@ -18,19 +18,13 @@ use std::alloc::{AllocError, Global};
 fn writes_level(kind: Kind, level: u8) -> bool
     ensures { result ≡ writes_level level kind }
 {
-    match kind {
-        Kind::WriteLevel { level: written } => written == level,
-        _ => false,
-    }
+    matches!(kind, Kind::WriteLevel { level: written } if written == level)
 }
 
 fn writes_values(kind: Kind) -> bool
     ensures { result ≡ writes_values kind }
 {
-    match kind {
-        Kind::WriteValue => true,
-        _ => false,
-    }
+    matches!(kind, Kind::WriteValue)
 }
 
 /// The first block that writes this level, or the number of blocks where none does.
@@ -121,8 +115,9 @@ fn value_array<'a>(alloc: Global, g: &Graph, blocks: &[AnyBlock<'a>]) -> Result<
     }
 }
 
-/// The result that the writers of a graph keep once all blocks are through: the arrays of each level from 1 on, and the
-/// values. `blocks` are the graph's own, in order.
+/// The result that the writers of a graph keep once all blocks are through: the arrays of so many levels, from 1 on, and
+/// the values. `blocks` are the graph's own, in order. Where several blocks write one level the first counts, and a level
+/// that no block writes has the arrays of an empty stream.
 pub fn gather<'a>(
     alloc: Global,
     g: &Graph,
