@@ -1,5 +1,7 @@
 //! Worked cases, over files and sinks in memory.
 
+ghost use Rattle.std.specs.Prelude.{◌≡◌, [], ◌∷◌, IfOk};
+
 mod machine;
 
 use crate::sam_serial;
@@ -92,7 +94,9 @@ fn name(alloc: Global, text: &str) -> Result<Name, AllocError> {
     Name::from_slice(alloc, text.as_bytes())
 }
 
-fn number(alloc: Global, n: u64) -> Result<Nums, AllocError> {
+fn number(alloc: Global, n: u64) -> Result<Nums, AllocError>
+    ensures { IfOk result (λ list. list ≡ n ∷ []) }
+{
     let mut list = Nums::new(alloc);
     list.push(n)?;
     Ok(list)
@@ -397,9 +401,13 @@ fn a_program_may_be_too_long(rt: HostRuntime) -> Result<(), Fail> {
 #[test]
 fn a_file_may_have_too_many_entries(rt: HostRuntime) -> Result<(), Fail> {
     let alloc = rt.alloc();
-    let mut lines = Name::new(alloc);
-    for _ in 0..ENTRIES_MOST + 1 {
-        lines.append(b"1 1\n")?;
+    let mut many = Name::new(alloc);
+    for _ in 0..4096 {
+        many.append(b"1 1\n")?;
+    }
+    let mut lines = name(alloc, "1 1\n")?;
+    for _ in 0..ENTRIES_MOST / 4096 {
+        lines.append(many.as_bytes())?;
     }
     let (status, err) = said(alloc, name(alloc, PRODUCT)?, lines)?;
     assert_eq!(rt; status, 4);

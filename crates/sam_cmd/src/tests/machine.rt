@@ -25,12 +25,10 @@ fn stored_vector(alloc: Global, coordinates: &[u64], values: &[u64]) -> Result<S
     requires in_range { list_all (λ entry. within (4 ∷ []) entry.0) (entry_list 1 coordinates.now values.now) ≡ true }
     ensures { IfOk result (λ s. (entries : List (List ℕ × ℕ)) × (s ≡ ranked (vector 4 entries))) }
 {
-    let mut formats = Items::new(alloc);
-    formats.push(Format::Compressed)?;
     let t = Tensor {
         name: name(alloc, "v")?,
         dims: number(alloc, 4)?,
-        formats,
+        formats: Items::from_vec(Vec::from_slice(alloc, &[Format::Compressed])?),
         order: number(alloc, 0)?,
         file: name(alloc, "v.tns")?,
     };
