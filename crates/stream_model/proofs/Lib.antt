@@ -1,5 +1,7 @@
 mod Spaced
 mod Rows
 mod Worked
+pub mod Lists
 pub mod Grown
 pub mod Streams
+pub mod Products

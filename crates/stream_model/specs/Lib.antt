@@ -3,4 +3,5 @@ pub mod Terms
 pub mod Trees
 pub mod Joins
 pub mod Labels
+pub mod Masks
 pub mod Texts
