@@ -5,3 +5,6 @@ pub mod Lists
 pub mod Grown
 pub mod Streams
 pub mod Products
+pub mod Masks
+pub mod Stored
+pub mod Prefixes
