@@ -8,3 +8,5 @@ pub mod Products
 pub mod Masks
 pub mod Stored
 pub mod Prefixes
+pub mod Sums
+pub mod TermLaw

@@ -7,6 +7,7 @@ use Rattle.sam_model.specs.Tensors.{is_stored}
 use Rattle.stream_model.specs.Terms.{Operand, TermData, keep, restricted, access_at}
 use Rattle.stream_model.specs.Trees.{admits, all_admit, everyone, grows, in_product, in_whole, all_stored}
 use Rattle.stream_model.proofs.Lists.{left-true, right-true, and-true, or-true, same-test, both-true}
+use Rattle.stream_model.proofs.Masks.{all_admit-gives}
 use Rattle.stream_model.proofs.Stored.{stored-begins}
 
 pub keep-longer : (mask : List Bool) (u : List ℕ) (c : ℕ) → keep mask (u ++ c ∷ []) ≡ keep mask u ++ cond (get_or mask (length u) false) (c ∷ []) []
@@ -110,3 +111,9 @@ list_all_at (a ∷ accesses) u (suc f) h k =
 pub access-stored : (t : TermData) (u : List ℕ) (f : ℕ) → in_whole t u ≡ true → f < length t.accesses
     → is_stored (access_at t.accesses f).tensor (restricted (access_at t.accesses f) u) ≡ true
 access-stored t u f h k = list_all_at t.accesses u f (sym (whole-stored t u) ∙ h) k
+
+-- a coordinate that a mask admits makes a longer stored prefix at each access of the mask
+pub asked-stored : (t : TermData) (mask : List Bool) (u : List ℕ) (c f : ℕ) → in_whole t u ≡ true → all_admit mask t.accesses u c ≡ true → f < length t.accesses
+    → get_or mask f false ≡ true → is_stored (access_at t.accesses f).tensor (restricted (access_at t.accesses f) (u ++ c ∷ [])) ≡ true
+asked-stored t mask u c f h m k e =
+    sym (admits-stored (access_at t.accesses f) u c (access-stored t u f h k)) ∙ all_admit-gives mask t.accesses u c f m k e

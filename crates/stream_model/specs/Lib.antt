@@ -4,4 +4,5 @@ pub mod Trees
 pub mod Joins
 pub mod Labels
 pub mod Masks
+pub mod Reduction
 pub mod Texts
