@@ -10,3 +10,5 @@ pub mod Stored
 pub mod Prefixes
 pub mod Sums
 pub mod TermLaw
+pub mod Reduced
+pub mod Pruned
