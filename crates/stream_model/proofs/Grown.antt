@@ -3,13 +3,14 @@ use Rattle.std.specs.Prelude.{◌≡◌, ◌<◌, ℕ, zero, suc, ◌+◌, Bool,
 use Rattle.std.specs.List.{filter, range_with_len}
 use mathlib.Core.List.{map}
 use Rattle.std.proofs.Common.{arith, sym, ◌∙◌, ap, subst}
+use Rattle.std.proofs.lemmas.Bool.{and_parts}
 use Rattle.std.proofs.lemmas.Bool.Decides.{nat_tests}
 use Rattle.std.proofs.lemmas.List.{length_push}
 use Rattle.sam_model.specs.Lists.{below, within}
 use Rattle.stream_tokens.specs.Nest.{Fiber}
 use Rattle.stream_tokens.specs.Shapes.{on_fibers, on_tokens, under, Each, EachToken}
 use Rattle.stream_tokens.proofs.Algebra.{map-map, on_fibers-under, under-ext, EachToken-under, fibers-grown}
-use Rattle.stream_model.proofs.Lists.{left-true, right-true, Each-always, Each-map, filter-range}
+use Rattle.stream_model.proofs.Lists.{Each-always, Each-map, filter-range}
 use Rattle.stream_model.specs.Grow.{next, longer, paths, path_fibers}
 
 -- ---- one level beneath another
@@ -54,8 +55,8 @@ within-longer [] [] c h e = no_item 0 c e
 within-longer [] (x ∷ p) c h e = h
 within-longer (s ∷ sizes) [] c h e = small_head c s true e refl
 within-longer (s ∷ sizes) (x ∷ p) c h e =
-    let r = within-longer sizes p c (right-true (ltb x s) (within sizes p) h) e in
-    rw (left-true (ltb x s) (within sizes p) h) r
+    let r = within-longer sizes p c (and_parts (ltb x s) (within sizes p) h).1 e in
+    rw (and_parts (ltb x s) (within sizes p) h).0 r
 
 pub longer-InTree : (ok : List ℕ → Bool) (sizes : List ℕ) (d : ℕ) (p : List ℕ) → InTree ok sizes d p → Each (InTree ok sizes (suc d)) (longer ok sizes p)
 longer-InTree ok sizes d p h =

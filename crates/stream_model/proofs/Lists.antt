@@ -4,21 +4,11 @@ use Rattle.std.specs.List.{flat_map, filter, list_any, range_with_len}
 use mathlib.Core.List.{map}
 use Rattle.std.proofs.Common.{arith, sym, ◌∙◌, ap}
 use Rattle.std.proofs.Math.Bool.{or_assoc}
+use Rattle.std.proofs.lemmas.Bool.{or_right}
 use Rattle.std.proofs.lemmas.List.Folds.{list_any-append}
 use Rattle.stream_tokens.specs.Shapes.{Each}
 
 -- ---- tests
-
-pub left-true : (a b : Bool) → (a && b) ≡ true → a ≡ true
-left-true true b h = refl
-left-true false b h = h
-
-pub right-true : (a b : Bool) → (a && b) ≡ true → b ≡ true
-right-true true b h = h
-right-true false b h = absurd (cc)
-
-pub both-true : (a b : Bool) → a ≡ true → b ≡ true → (a && b) ≡ true
-both-true a b h k = rw h k
 
 pub and-false : (a : Bool) → (a && false) ≡ false
 and-false true = refl
@@ -31,10 +21,6 @@ and-true false = refl
 pub or-false : (a : Bool) → (a || false) ≡ a
 or-false true = refl
 or-false false = refl
-
-pub or-true : (a : Bool) → (a || true) ≡ true
-or-true true = refl
-or-true false = refl
 
 -- two tests are equal, where each is true when the other is
 pub same-test : (a b : Bool) → (a ≡ true → b ≡ true) → (b ≡ true → a ≡ true) → a ≡ b
@@ -140,4 +126,4 @@ list_any-mono p q h (x ∷ xs) e = by_case (p x) refl e (list_any-mono p q h xs)
   where
     by_case : (c : Bool) → p x ≡ c → (c || list_any p xs) ≡ true → (list_any p xs ≡ true → list_any q xs ≡ true) → (q x || list_any q xs) ≡ true
     by_case true k e r = rw (h x k) refl
-    by_case false k e r = ap (λ b. q x || b) (r e) ∙ or-true (q x)
+    by_case false k e r = ap (λ b. q x || b) (r e) ∙ or_right (q x) true refl

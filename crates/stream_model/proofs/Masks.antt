@@ -2,11 +2,12 @@
 use Rattle.std.specs.Prelude.{◌≡◌, ◌<◌, ℕ, zero, suc, ◌+◌, Bool, true, false, not, ◌&&◌, ◌||◌, List, [], ◌∷◌, length, get_or, eqb, refl}
 use mathlib.Core.List.{map}
 use Rattle.std.proofs.Common.{arith, sym, ◌∙◌, ap, ext_get_or}
+use Rattle.std.proofs.lemmas.Bool.{and_parts}
 use Rattle.std.proofs.lemmas.Bool.Decides.{nat_tests}
 use Rattle.stream_model.specs.Terms.{Operand, TermData, access_at, no_operand}
 use Rattle.stream_model.specs.Trees.{admits, all_admit, everyone}
 use Rattle.stream_model.specs.Masks.{none, only, any_of, final}
-use Rattle.stream_model.proofs.Lists.{left-true, right-true, and-true, and-false, or-false}
+use Rattle.stream_model.proofs.Lists.{and-true, and-false, or-false}
 
 -- ---- what a mask admits
 
@@ -46,9 +47,9 @@ pub all_admit-gives : (mask : List Bool) (accesses : List Operand) (u : List ℕ
     → get_or mask f false ≡ true → admits (access_at accesses f) u c ≡ true
 all_admit-gives [] accesses u c f h k e = absurd (cc)
 all_admit-gives (b ∷ mask) [] u c f h k e = absurd (omega (arith, k))
-all_admit-gives (b ∷ mask) (a ∷ accesses) u c zero h k e = rw e at (left-true (not b || admits a u c) (all_admit mask accesses u c) h)
+all_admit-gives (b ∷ mask) (a ∷ accesses) u c zero h k e = rw e at (and_parts (not b || admits a u c) (all_admit mask accesses u c) h).0
 all_admit-gives (b ∷ mask) (a ∷ accesses) u c (suc f) h k e =
-    all_admit-gives mask accesses u c f (right-true (not b || admits a u c) (all_admit mask accesses u c) h) (omega (arith, k)) e
+    all_admit-gives mask accesses u c f (and_parts (not b || admits a u c) (all_admit mask accesses u c) h).1 (omega (arith, k)) e
 
 -- where each access of the mask admits, the mask does
 pub all_admit-from : (mask : List Bool) (accesses : List Operand) (u : List ℕ) (c : ℕ)

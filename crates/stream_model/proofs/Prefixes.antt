@@ -3,10 +3,11 @@ use Rattle.std.specs.Prelude.{◌≡◌, ◌<◌, ℕ, zero, suc, ◌+◌, Bool,
 use Rattle.std.specs.List.{list_all}
 use Rattle.std.proofs.Common.{arith, sym, ◌∙◌, ap, append_assoc, append-nil}
 use Rattle.std.proofs.Math.Bool.{and_assoc}
+use Rattle.std.proofs.lemmas.Bool.{and_from, and_parts}
 use Rattle.sam_model.specs.Tensors.{is_stored}
 use Rattle.stream_model.specs.Terms.{Operand, TermData, keep, restricted, access_at}
 use Rattle.stream_model.specs.Trees.{admits, all_admit, everyone, grows, in_product, in_whole, all_stored}
-use Rattle.stream_model.proofs.Lists.{left-true, right-true, and-true, or-true, same-test, both-true}
+use Rattle.stream_model.proofs.Lists.{and-true, same-test}
 use Rattle.stream_model.proofs.Masks.{all_admit-gives}
 use Rattle.stream_model.proofs.Stored.{stored-begins}
 
@@ -55,8 +56,8 @@ stored_each accesses u = list_all (λ a. is_stored a.tensor (restricted a u)) ac
 one_more : (a : Operand) (u : List ℕ) (c : ℕ) → (admits a u c && is_stored a.tensor (restricted a u)) ≡ is_stored a.tensor (restricted a (u ++ c ∷ []))
 one_more a u c =
     same-test (admits a u c && is_stored a.tensor (restricted a u)) (is_stored a.tensor (restricted a (u ++ c ∷ [])))
-    (λ h. sym (admits-stored a u c (right-true (admits a u c) (is_stored a.tensor (restricted a u)) h)) ∙ left-true (admits a u c) (is_stored a.tensor (restricted a u)) h)
-    (λ h. both-true (admits a u c) (is_stored a.tensor (restricted a u)) (admits-stored a u c (stored-shorter a u c h) ∙ h) (stored-shorter a u c h))
+    (λ h. sym (admits-stored a u c (and_parts (admits a u c) (is_stored a.tensor (restricted a u)) h).1) ∙ (and_parts (admits a u c) (is_stored a.tensor (restricted a u)) h).0)
+    (λ h. and_from (admits a u c) (is_stored a.tensor (restricted a u)) (admits-stored a u c (stored-shorter a u c h) ∙ h) (stored-shorter a u c h))
 
 shuffled : (a r s t : Bool) → ((a && r) && (s && t)) ≡ ((a && s) && (r && t))
 shuffled true true s t = refl
@@ -103,9 +104,9 @@ whole-stored t u =
 list_all_at : (accesses : List Operand) (u : List ℕ) (f : ℕ) → stored_each accesses u ≡ true → f < length accesses
     → is_stored (access_at accesses f).tensor (restricted (access_at accesses f) u) ≡ true
 list_all_at [] u f h k = absurd (omega (arith, k))
-list_all_at (a ∷ accesses) u zero h k = left-true (is_stored a.tensor (restricted a u)) (stored_each accesses u) h
+list_all_at (a ∷ accesses) u zero h k = (and_parts (is_stored a.tensor (restricted a u)) (stored_each accesses u) h).0
 list_all_at (a ∷ accesses) u (suc f) h k =
-    list_all_at accesses u f (right-true (is_stored a.tensor (restricted a u)) (stored_each accesses u) h) (omega (arith, k))
+    list_all_at accesses u f (and_parts (is_stored a.tensor (restricted a u)) (stored_each accesses u) h).1 (omega (arith, k))
 
 -- at each prefix of the product tree each access is stored
 pub access-stored : (t : TermData) (u : List ℕ) (f : ℕ) → in_whole t u ≡ true → f < length t.accesses

@@ -15,7 +15,7 @@ use Rattle.stream_model.specs.Grow.{next, longer, path_fibers}
 use Rattle.stream_model.specs.Terms.{Operand, TermData, keep, restricted, access_at, no_operand}
 use Rattle.stream_model.specs.Trees.{admits, all_admit, everyone, grows, asked_at, in_product, in_whole}
 use Rattle.stream_model.specs.Masks.{none, only, any_of, final}
-use Rattle.stream_model.proofs.Lists.{left-true, right-true, both-true, and-true, or-true, filter-ext, Each-always}
+use Rattle.stream_model.proofs.Lists.{and-true, filter-ext, Each-always}
 use Rattle.stream_model.proofs.Grown.{InTree, tokens-suc, paths-InTree, paths-same}
 
 -- ---- one coordinate more

@@ -3,6 +3,7 @@ use Rattle.std.specs.Prelude.{◌≡◌, ◌<◌, ◌≤◌, ℕ, zero, suc, ◌
 use Rattle.std.specs.List.{flat_map, filter, list_any}
 use mathlib.Core.List.{map}
 use Rattle.std.proofs.Common.{arith, sym, ◌∙◌, ap, append_assoc, append-nil, drop-cons, drop_of_length-le}
+use Rattle.std.proofs.lemmas.Bool.{and_from, and_parts}
 use Rattle.std.proofs.lemmas.Bool.Decides.{nat_tests}
 use Rattle.std.proofs.lemmas.List.{length_push}
 use Rattle.sam_model.specs.Lists.{below, tuples}
@@ -10,7 +11,7 @@ use Rattle.stream_tokens.specs.Nest.{Leaf}
 use Rattle.stream_model.specs.Grow.{longer, path_fibers}
 use Rattle.stream_model.specs.Terms.{TermData}
 use Rattle.stream_model.specs.Trees.{in_reduced, value_reduced, reduced_sizes, begins_value, in_pruned}
-use Rattle.stream_model.proofs.Lists.{right-true, and-true, or-false, same-test, both-true, filter-ext, list_any-ext, list_any-map, list_any-flat_map, list_any-gives}
+use Rattle.stream_model.proofs.Lists.{and-true, or-false, same-test, filter-ext, list_any-ext, list_any-map, list_any-flat_map, list_any-gives}
 use Rattle.stream_model.proofs.Grown.{InTree, paths-same}
 use Rattle.stream_model.proofs.Reduced.{value-begins}
 
@@ -30,9 +31,9 @@ pub late-test : (t : TermData) (g f : ℕ) (p : List ℕ) → f ≤ length p →
 late-test t g f p h =
     ap (λ b. in_reduced t g p && b) (is_late (length p) f (begins_value (value_reduced t g) (reduced_sizes t g) p) h)
     ∙ same-test (in_reduced t g p && begins_value (value_reduced t g) (reduced_sizes t g) p) (begins_value (value_reduced t g) (reduced_sizes t g) p)
-    (λ k. right-true (in_reduced t g p) (begins_value (value_reduced t g) (reduced_sizes t g) p) k)
+    (λ k. (and_parts (in_reduced t g p) (begins_value (value_reduced t g) (reduced_sizes t g) p) k).1)
     (λ k.
-      both-true (in_reduced t g p) (begins_value (value_reduced t g) (reduced_sizes t g) p)
+      and_from (in_reduced t g p) (begins_value (value_reduced t g) (reduced_sizes t g) p)
       (list_any-gives (λ rest. is_some (value_reduced t g (p ++ rest))) (in_reduced t g p) (λ rest e. value-begins t g p rest e)
       (tuples (drop (length p) (reduced_sizes t g))) k)
       k)

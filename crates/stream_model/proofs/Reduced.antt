@@ -3,6 +3,7 @@ use Rattle.std.specs.Prelude.{◌≡◌, ◌<◌, ◌≤◌, ℕ, zero, suc, ◌
 use Rattle.std.specs.List.{flat_map, filter, list_any}
 use mathlib.Core.List.{map}
 use Rattle.std.proofs.Common.{arith, sym, ◌∙◌, ap, append-nil}
+use Rattle.std.proofs.lemmas.Bool.{and_parts, or_right}
 use Rattle.std.proofs.lemmas.Bool.Decides.{nat_tests}
 use Rattle.std.proofs.lemmas.List.{length_push}
 use Rattle.sam_model.specs.Lists.{below}
@@ -14,7 +15,7 @@ use Rattle.stream_model.specs.Terms.{Operand, TermData, whole}
 use Rattle.stream_model.specs.Trees.{grows, everyone, in_whole, free_count, kept_loops, kept_sizes, until, plus_there, sum_there, in_reduced, value_whole, value_reduced, reduced_sizes}
 use Rattle.stream_model.specs.Labels.{loop_sizes}
 use Rattle.stream_model.specs.Reduction.{Reduces}
-use Rattle.stream_model.proofs.Lists.{left-true, or-true, or-false, not-true, map-ext, filter-ext-each, Each-always, list_any-ext, list_any-map, list_any-flat_map, list_any-gives, list_any-mono}
+use Rattle.stream_model.proofs.Lists.{or-false, not-true, map-ext, filter-ext-each, Each-always, list_any-ext, list_any-map, list_any-flat_map, list_any-gives, list_any-mono}
 use Rattle.stream_model.proofs.Grown.{InTree, paths-same}
 use Rattle.stream_model.proofs.Products.{grows-append}
 use Rattle.stream_model.proofs.Sums.{sum-flat_map, is_some-sum}
@@ -32,7 +33,7 @@ free_front ((s, true) ∷ front) rest = free_front front rest
 free_front ((s, false) ∷ front) rest = let h = free_front front rest in omega (arith, h)
 
 is_kept : (g n : ℕ) (b : Bool) → g ≤ n → (b || leb g n) ≡ true
-is_kept g n b h = let e : leb g n ≡ true = grind (arith, nat_tests) in ap (λ x. b || x) e ∙ or-true b
+is_kept g n b h = let e : leb g n ≡ true = grind (arith, nat_tests) in ap (λ x. b || x) e ∙ or_right b true refl
 
 -- the loops before enough free ones are all kept
 pub kept-front : (g : ℕ) (front rest : List Loop) → g ≤ free_count rest → kept_loops g (front ++ rest) ≡ all_kept front ++ kept_loops g rest
@@ -206,8 +207,7 @@ Closed test = (u v : List ℕ) → test (u ++ v) ≡ true → test u ≡ true
 
 whole_closed : (t : TermData) → Closed (in_whole t)
 whole_closed t u v h =
-    left-true (in_whole t u) (grows t.accesses (λ _. everyone t.accesses) u v)
-    (sym (grows-append t.accesses (λ _. everyone t.accesses) [] u v) ∙ h)
+    (and_parts (in_whole t u) (grows t.accesses (λ _. everyone t.accesses) u v) (sym (grows-append t.accesses (λ _. everyone t.accesses) [] u v) ∙ h)).0
 
 at_start : (test : List ℕ → Bool) → Closed test → (us : List (List ℕ)) → list_any test us ≡ true → (test [] || false) ≡ true
 at_start test closed us h = or-false (test []) ∙ list_any-gives test (test []) (λ u k. closed [] u k) us h

@@ -2,13 +2,14 @@
 use Rattle.std.specs.Prelude.{◌≡◌, ◌<◌, ◌≤◌, ℕ, zero, suc, ◌+◌, ◌%◌, ◌^◌, Bool, true, false, cond, ◌&&◌, ◌||◌, List, [], ◌∷◌, ◌++◌, length, take, eqb, refl}
 use Rattle.std.specs.List.{list_any}
 use Rattle.std.proofs.Common.{arith, sym, ◌∙◌, ap, length-append}
+use Rattle.std.proofs.lemmas.Bool.{and_parts}
 use Rattle.std.proofs.lemmas.Bool.Decides.{nat_tests}
 use Rattle.std.proofs.lemmas.List.{take-append-le}
 use Rattle.sam_model.specs.declared.tensors.Format.{Format}
 use Rattle.sam_model.specs.declared.tensors.Format.TheVariants.{Dense, Compressed}
 use Rattle.sam_model.specs.Lists.{same_list, total}
 use Rattle.sam_model.specs.Tensors.{Stored, compressed_until, is_stored, value_at}
-use Rattle.stream_model.proofs.Lists.{left-true, right-true, list_any-mono}
+use Rattle.stream_model.proofs.Lists.{list_any-mono}
 
 -- ---- the last compressed level
 
@@ -41,8 +42,8 @@ agree (suc k) (suc m) [] [] h s = refl
 agree (suc k) (suc m) [] (y ∷ p) h s = s
 agree (suc k) (suc m) (x ∷ e) [] h s = s
 agree (suc k) (suc m) (x ∷ e) (y ∷ p) h s =
-    let r = agree k m e p (omega (arith, h)) (right-true (eqb x y) (same_list (take m e) (take m p)) s) in
-    rw (left-true (eqb x y) (same_list (take m e) (take m p)) s) r
+    let r = agree k m e p (omega (arith, h)) (and_parts (eqb x y) (same_list (take m e) (take m p)) s).1 in
+    rw (and_parts (eqb x y) (same_list (take m e) (take m p)) s).0 r
 
 agree_whole : (k : ℕ) (e p : List ℕ) → same_list e p ≡ true → same_list (take k e) (take k p) ≡ true
 agree_whole zero e p s = refl
@@ -50,8 +51,8 @@ agree_whole (suc k) [] [] s = refl
 agree_whole (suc k) [] (y ∷ p) s = s
 agree_whole (suc k) (x ∷ e) [] s = s
 agree_whole (suc k) (x ∷ e) (y ∷ p) s =
-    let r = agree_whole k e p (right-true (eqb x y) (same_list e p) s) in
-    rw (left-true (eqb x y) (same_list e p) s) r
+    let r = agree_whole k e p (and_parts (eqb x y) (same_list e p) s).1 in
+    rw (and_parts (eqb x y) (same_list e p) s).0 r
 
 -- ---- prefixes
 
