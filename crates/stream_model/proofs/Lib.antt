@@ -12,3 +12,4 @@ pub mod Sums
 pub mod TermLaw
 pub mod Reduced
 pub mod Pruned
+pub mod Orders
