@@ -13,3 +13,5 @@ pub mod TermLaw
 pub mod Reduced
 pub mod Pruned
 pub mod Orders
+pub mod Moduli
+pub mod Places
