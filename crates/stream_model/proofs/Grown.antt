@@ -1,14 +1,13 @@
 -- Trees of prefixes: each level lies beneath the one above it, and what holds of each prefix.
-use Rattle.std.specs.Prelude.{◌≡◌, ◌<◌, ℕ, zero, suc, ◌+◌, Bool, true, false, cond, ◌&&◌, List, [], ◌∷◌, ◌++◌, length, slice_index, ltb, refl}
-use Rattle.std.specs.List.{filter, range_with_len}
+use Rattle.std.specs.Prelude.{◌≡◌, ◌<◌, ℕ, zero, suc, Bool, true, false, ◌&&◌, List, [], ◌∷◌, ◌++◌, length, slice_index, ltb, refl}
 use mathlib.Core.List.{map}
 use Rattle.std.proofs.Common.{arith, sym, ◌∙◌, ap, subst}
 use Rattle.std.proofs.lemmas.Bool.{and_parts}
 use Rattle.std.proofs.lemmas.Bool.Decides.{nat_tests}
 use Rattle.std.proofs.lemmas.List.{length_push}
-use Rattle.sam_model.specs.Lists.{below, within}
+use Rattle.sam_model.specs.Lists.{within}
 use Rattle.stream_tokens.specs.Nest.{Fiber}
-use Rattle.stream_tokens.specs.Shapes.{on_fibers, on_tokens, under, Each, EachToken}
+use Rattle.stream_tokens.specs.Shapes.{on_tokens, under, Each, EachToken}
 use Rattle.stream_tokens.proofs.Algebra.{map-map, on_fibers-under, under-ext, EachToken-under, fibers-grown}
 use Rattle.stream_model.proofs.Lists.{Each-always, Each-map, filter-range}
 use Rattle.stream_model.specs.Grow.{next, longer, paths, path_fibers}

@@ -15,3 +15,4 @@ pub mod Pruned
 pub mod Orders
 pub mod Moduli
 pub mod Places
+pub mod Denoted

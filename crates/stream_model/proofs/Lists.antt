@@ -3,7 +3,6 @@ use Rattle.std.specs.Prelude.{◌≡◌, ◌<◌, ℕ, zero, suc, ◌+◌, Bool,
 use Rattle.std.specs.List.{flat_map, filter, list_any, range_with_len}
 use mathlib.Core.List.{map}
 use Rattle.std.proofs.Common.{arith, sym, ◌∙◌, ap}
-use Rattle.std.proofs.Math.Bool.{or_assoc}
 use Rattle.std.proofs.lemmas.Bool.{or_right}
 use Rattle.std.proofs.lemmas.List.Folds.{list_any-append}
 use Rattle.stream_tokens.specs.Shapes.{Each}

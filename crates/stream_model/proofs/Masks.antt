@@ -1,11 +1,11 @@
 -- Masks of accesses, access by access.
-use Rattle.std.specs.Prelude.{◌≡◌, ◌<◌, ℕ, zero, suc, ◌+◌, Bool, true, false, not, ◌&&◌, ◌||◌, List, [], ◌∷◌, length, get_or, eqb, refl}
+use Rattle.std.specs.Prelude.{◌≡◌, ◌<◌, ℕ, zero, suc, Bool, true, false, not, ◌&&◌, ◌||◌, List, [], ◌∷◌, length, get_or, eqb, refl}
 use mathlib.Core.List.{map}
-use Rattle.std.proofs.Common.{arith, sym, ◌∙◌, ap, ext_get_or}
+use Rattle.std.proofs.Common.{arith, sym, ◌∙◌, ap}
 use Rattle.std.proofs.lemmas.Bool.{and_parts}
 use Rattle.std.proofs.lemmas.Bool.Decides.{nat_tests}
-use Rattle.stream_model.specs.Terms.{Operand, TermData, access_at, no_operand}
-use Rattle.stream_model.specs.Trees.{admits, all_admit, everyone}
+use Rattle.stream_model.specs.Terms.{Operand, TermData, access_at}
+use Rattle.stream_model.specs.Trees.{admits, all_admit}
 use Rattle.stream_model.specs.Masks.{none, only, any_of, final}
 use Rattle.stream_model.proofs.Lists.{and-true, and-false, or-false}
 

@@ -3,16 +3,15 @@ use Rattle.std.specs.Prelude.{◌≡◌, ◌⊎◌, ◌<◌, ◌≤◌, ℕ, zer
 use Rattle.std.specs.List.{filter, list_any, list_all, range_with_len, IsDistinct, AllByRecursion}
 use mathlib.Core.List.{map}
 use Rattle.std.proofs.Common.{arith, sym, ◌∙◌, ap, inl, inr}
-use Rattle.std.proofs.lemmas.Bool.{and_parts, or_parts, or_cases, not-true, ltb-true, eqb-true, eq-eqb, both_ways}
+use Rattle.std.proofs.lemmas.Bool.{and_parts, or_parts, or_cases, not-true, ltb-true, eqb-true, eq-eqb}
 use Rattle.std.proofs.lemmas.Bool.Decides.{nat_tests}
 use Rattle.std.proofs.lemmas.List.{get_or-map}
 use Rattle.std.proofs.lemmas.Map.Steps.{length-le_from_distinct_below}
-use Rattle.sam_model.specs.Lists.{below, items_at, is_in, coordinate}
+use Rattle.sam_model.specs.Lists.{items_at, is_in, coordinate}
 use Rattle.sam_model.specs.Accepted.{distinct, is_order, ascending, ascending_from}
 use Rattle.stream_tokens.specs.Shapes.{Each}
-use Rattle.stream_tokens.proofs.Algebra.{map-map}
 use Rattle.stream_model.specs.Terms.{keep}
-use Rattle.stream_model.proofs.Lists.{same-test, Each-always, map-ext-each, filter-ext-each, list_any-map, list_any-mono}
+use Rattle.stream_model.proofs.Lists.{same-test, map-ext-each, filter-ext-each, list_any-map, list_any-mono}
 
 -- ---- an order has every mode
 
@@ -244,7 +243,7 @@ coordinate-map a (v ∷ vs) [] r h = absurd (omega (arith, h))
 coordinate-map a (v ∷ vs) (c ∷ u) r h =
     let here : coordinate (v ∷ vs) (c ∷ u) v ≡ c = ap (λ b. cond b c (coordinate vs u v)) (eq-eqb v v refl) in
     let others : map (coordinate (v ∷ vs) (c ∷ u)) vs ≡ map (coordinate vs u) vs =
-      map-ext-each (λ w. v < w) (coordinate (v ∷ vs) (c ∷ u)) (coordinate vs u) (λ w l. ap (λ b. cond b c (coordinate vs u w)) (other w v l)) vs (Rises-above v vs r.1)
+    map-ext-each (λ w. v < w) (coordinate (v ∷ vs) (c ∷ u)) (coordinate vs u) (λ w l. ap (λ b. cond b c (coordinate vs u w)) (other w v l)) vs (Rises-above v vs r.1)
     in
     let rest : map (coordinate vs u) vs ≡ u = coordinate-map (suc v) vs u r.1 (omega (arith, h)) in
     cc

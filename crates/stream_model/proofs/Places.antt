@@ -1,10 +1,9 @@
 -- The accesses of an accepted program: their coordinates at a tuple, and the sizes of their loops.
-use Rattle.std.specs.Prelude.{◌≡◌, ◌<◌, ◌≤◌, ℕ, zero, suc, ◌+◌, Bool, true, false, cond, ◌&&◌, ◌||◌, ◌==◌, List, [], ◌∷◌, length, slice_index, get_or, nat_le, nat_lt, eqb, refl}
+use Rattle.std.specs.Prelude.{◌≡◌, ◌<◌, ℕ, zero, suc, Bool, true, false, ◌&&◌, ◌==◌, List, [], ◌∷◌, length, slice_index, nat_le, nat_lt, eqb, refl}
 use Rattle.std.specs.List.{filter, list_any, list_all}
 use mathlib.Core.List.{map}
 use Rattle.std.proofs.Common.{arith, sym, ◌∙◌, ap, inl, inr, ◌⊎◌}
 use Rattle.std.proofs.lemmas.Bool.{and_parts, or_cases, or_left, or_right, eqb-true, eq-eqb, ltb-true}
-use Rattle.std.proofs.lemmas.List.{length-map}
 use Rattle.sam_model.specs.declared.tensors.Tensor.{Tensor}
 use Rattle.sam_model.specs.declared.tensors.Entries.{Entries}
 use Rattle.sam_model.specs.declared.program.Factor.{Factor}
@@ -12,15 +11,14 @@ use Rattle.sam_model.specs.declared.program.Factor.TheVariants.{Access, Literal}
 use Rattle.sam_model.specs.declared.program.Term.{Term}
 use Rattle.sam_model.specs.declared.program.Program.{Program}
 use Rattle.sam_model.specs.Lists.{below, items_at, is_in, coordinate}
-use Rattle.sam_model.specs.Tensors.{Stored, stored_as}
 use Rattle.sam_model.specs.Denote.{has_var, loops_of, Loop, loop_list, tensor_at, stored_of, order_at, place_of}
-use Rattle.sam_model.specs.Accepted.{distinct, ascending, is_dimension, is_order, is_well_formed, is_operand, variables_fit, access_fits, tensor_passes, factor_fits, is_access, term_has, factor_reduces, term_fits, is_result, distinct_tensors, is_taken, declarations_fit, statement_fits, accepted, distinct_names, stands}
+use Rattle.sam_model.specs.Accepted.{distinct, ascending, is_dimension, is_order, is_well_formed, is_operand, variables_fit, access_fits, tensor_passes, factor_fits, is_access, term_has, factor_reduces, term_fits, is_result, distinct_tensors, declarations_fit, statement_fits, accepted, distinct_names, stands}
 use Rattle.stream_tokens.specs.Shapes.{Each}
 use Rattle.stream_tokens.proofs.Algebra.{map-map}
-use Rattle.stream_model.specs.Terms.{Operand, TermData, keep, restricted, access_at, mask_of, operands_of, term_data}
+use Rattle.stream_model.specs.Terms.{keep, access_at, mask_of, operands_of, term_data}
 use Rattle.stream_model.specs.Labels.{loop_sizes}
 use Rattle.stream_model.specs.Masks.{AllFit}
-use Rattle.stream_model.proofs.Lists.{map-ext, filter-ext}
+use Rattle.stream_model.proofs.Lists.{filter-ext}
 use Rattle.stream_model.proofs.Orders.{is_in-items, items_at-map, order-in-range, Rises, rises, Rises-range, filter-members, keep-map, coordinate-map}
 
 -- ---- what is accepted

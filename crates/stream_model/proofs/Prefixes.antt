@@ -1,12 +1,11 @@
 -- The prefixes of product trees at each access: what is asked is stored.
-use Rattle.std.specs.Prelude.{◌≡◌, ◌<◌, ℕ, zero, suc, ◌+◌, Bool, true, false, cond, not, ◌&&◌, ◌||◌, List, [], ◌∷◌, ◌++◌, length, get_or, refl}
+use Rattle.std.specs.Prelude.{◌≡◌, ◌<◌, ℕ, zero, suc, Bool, true, false, cond, not, ◌&&◌, ◌||◌, List, [], ◌∷◌, ◌++◌, length, get_or, refl}
 use Rattle.std.specs.List.{list_all}
 use Rattle.std.proofs.Common.{arith, sym, ◌∙◌, ap, append_assoc, append-nil}
-use Rattle.std.proofs.Math.Bool.{and_assoc}
 use Rattle.std.proofs.lemmas.Bool.{and_from, and_parts}
 use Rattle.sam_model.specs.Tensors.{is_stored}
 use Rattle.stream_model.specs.Terms.{Operand, TermData, keep, restricted, access_at}
-use Rattle.stream_model.specs.Trees.{admits, all_admit, everyone, grows, in_product, in_whole, all_stored}
+use Rattle.stream_model.specs.Trees.{admits, all_admit, everyone, grows, in_whole, all_stored}
 use Rattle.stream_model.proofs.Lists.{and-true, same-test}
 use Rattle.stream_model.proofs.Masks.{all_admit-gives}
 use Rattle.stream_model.proofs.Stored.{stored-begins}

@@ -1,21 +1,20 @@
 -- Product trees: which coordinates follow a prefix, by the accesses that are asked.
-use Rattle.std.specs.Prelude.{◌≡◌, ◌<◌, ℕ, zero, suc, ◌+◌, Bool, true, false, cond, not, ◌&&◌, ◌||◌, List, [], ◌∷◌, ◌++◌, length, slice_index, get_or, eqb, refl}
+use Rattle.std.specs.Prelude.{◌≡◌, ◌<◌, ℕ, zero, suc, ◌+◌, Bool, true, false, not, ◌&&◌, ◌||◌, List, [], ◌∷◌, ◌++◌, length, slice_index, get_or, eqb, refl}
 use Rattle.std.specs.List.{filter}
 use mathlib.Core.List.{map}
-use Rattle.std.proofs.Common.{arith, sym, ◌∙◌, ap, subst, append_assoc, append-nil}
+use Rattle.std.proofs.Common.{arith, sym, ◌∙◌, ap, append_assoc, append-nil}
 use Rattle.std.proofs.Math.Bool.{and_assoc}
 use Rattle.std.proofs.lemmas.Bool.Decides.{nat_tests}
 use Rattle.std.proofs.lemmas.List.{length_push}
 use Rattle.sam_model.specs.Lists.{below}
-use Rattle.sam_model.specs.Tensors.{is_stored}
 use Rattle.stream_tokens.specs.Nest.{Fiber}
 use Rattle.stream_tokens.specs.Shapes.{on_tokens, under}
 use Rattle.stream_tokens.proofs.Algebra.{under-ext}
 use Rattle.stream_model.specs.Grow.{next, longer, path_fibers}
-use Rattle.stream_model.specs.Terms.{Operand, TermData, keep, restricted, access_at, no_operand}
+use Rattle.stream_model.specs.Terms.{Operand, TermData}
 use Rattle.stream_model.specs.Trees.{admits, all_admit, everyone, grows, asked_at, in_product, in_whole}
-use Rattle.stream_model.specs.Masks.{none, only, any_of, final}
-use Rattle.stream_model.proofs.Lists.{and-true, filter-ext, Each-always}
+use Rattle.stream_model.specs.Masks.{final}
+use Rattle.stream_model.proofs.Lists.{and-true, filter-ext}
 use Rattle.stream_model.proofs.Grown.{InTree, tokens-suc, paths-InTree, paths-same}
 
 -- ---- one coordinate more
@@ -79,9 +78,9 @@ pub paths-alike : (fs : List Operand) (ask ask' : ℕ → List Bool) (sizes : Li
 paths-alike fs ask ask' sizes d h =
     paths-same (grows fs ask []) (grows fs ask' []) sizes sizes refl d
     (λ e p k i.
-      same_longer fs ask ask' sizes p i.passes
-      (sym (grows-same fs ask ask' d h [] p (omega (arith, k, i.count))) ∙ i.passes)
-      (λ c. h (length p) p c (omega (arith, k, i.count)) refl))
+    same_longer fs ask ask' sizes p i.passes
+    (sym (grows-same fs ask ask' d h [] p (omega (arith, k, i.count))) ∙ i.passes)
+    (λ c. h (length p) p c (omega (arith, k, i.count)) refl))
 
 pub paths-lower : (t : TermData) (d : ℕ) (mask : List Bool) (sizes : List ℕ)
     → path_fibers (in_product t (suc d) mask) sizes d ≡ path_fibers (in_whole t) sizes d

@@ -1,6 +1,6 @@
 -- Pruned trees: above the level of pruning the reduced tree, and from there on what begins a value.
-use Rattle.std.specs.Prelude.{◌≡◌, ◌<◌, ◌≤◌, ℕ, zero, suc, ◌+◌, Bool, true, false, ◌&&◌, ◌||◌, List, [], ◌∷◌, ◌++◌, length, drop, slice_index, ltb, is_some, refl}
-use Rattle.std.specs.List.{flat_map, filter, list_any}
+use Rattle.std.specs.Prelude.{◌≡◌, ◌<◌, ◌≤◌, ℕ, suc, Bool, true, false, ◌&&◌, ◌||◌, List, [], ◌∷◌, ◌++◌, length, drop, slice_index, ltb, is_some, refl}
+use Rattle.std.specs.List.{list_any}
 use mathlib.Core.List.{map}
 use Rattle.std.proofs.Common.{arith, sym, ◌∙◌, ap, append_assoc, append-nil, drop-cons, drop_of_length-le}
 use Rattle.std.proofs.lemmas.Bool.{and_from, and_parts}
@@ -33,10 +33,10 @@ late-test t g f p h =
     ∙ same-test (in_reduced t g p && begins_value (value_reduced t g) (reduced_sizes t g) p) (begins_value (value_reduced t g) (reduced_sizes t g) p)
     (λ k. (and_parts (in_reduced t g p) (begins_value (value_reduced t g) (reduced_sizes t g) p) k).1)
     (λ k.
-      and_from (in_reduced t g p) (begins_value (value_reduced t g) (reduced_sizes t g) p)
-      (list_any-gives (λ rest. is_some (value_reduced t g (p ++ rest))) (in_reduced t g p) (λ rest e. value-begins t g p rest e)
-      (tuples (drop (length p) (reduced_sizes t g))) k)
-      k)
+    and_from (in_reduced t g p) (begins_value (value_reduced t g) (reduced_sizes t g) p)
+    (list_any-gives (λ rest. is_some (value_reduced t g (p ++ rest))) (in_reduced t g p) (λ rest e. value-begins t g p rest e)
+    (tuples (drop (length p) (reduced_sizes t g))) k)
+    k)
 
 -- what begins a value, begins it with some next coordinate
 pub begins-next : (value : List ℕ → Leaf) (sizes p : List ℕ) → length p < length sizes

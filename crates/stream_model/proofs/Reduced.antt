@@ -1,6 +1,6 @@
 -- Reduced trees: a reduced loop is summed over, and the levels above the first one are those of the product tree.
-use Rattle.std.specs.Prelude.{◌≡◌, ◌<◌, ◌≤◌, ℕ, zero, suc, ◌+◌, Bool, true, false, cond, ◌||◌, List, [], ◌∷◌, ◌++◌, length, slice_index, leb, Some, None, is_some, refl}
-use Rattle.std.specs.List.{flat_map, filter, list_any}
+use Rattle.std.specs.Prelude.{◌≡◌, ◌<◌, ◌≤◌, ℕ, zero, suc, Bool, true, false, cond, ◌||◌, List, [], ◌∷◌, ◌++◌, length, slice_index, leb, Some, None, is_some, refl}
+use Rattle.std.specs.List.{filter, list_any}
 use mathlib.Core.List.{map}
 use Rattle.std.proofs.Common.{arith, sym, ◌∙◌, ap, append-nil}
 use Rattle.std.proofs.lemmas.Bool.{and_parts, or_right}
@@ -8,10 +8,10 @@ use Rattle.std.proofs.lemmas.Bool.Decides.{nat_tests}
 use Rattle.std.proofs.lemmas.List.{length_push}
 use Rattle.sam_model.specs.Lists.{below}
 use Rattle.sam_model.specs.Denote.{Loop, fill}
-use Rattle.stream_tokens.specs.Nest.{Fiber, Leaf}
+use Rattle.stream_tokens.specs.Nest.{Leaf}
 use Rattle.stream_tokens.proofs.Algebra.{map-map, map-same}
 use Rattle.stream_model.specs.Grow.{longer, path_fibers}
-use Rattle.stream_model.specs.Terms.{Operand, TermData, whole}
+use Rattle.stream_model.specs.Terms.{TermData, whole}
 use Rattle.stream_model.specs.Trees.{grows, everyone, in_whole, free_count, kept_loops, kept_sizes, until, plus_there, sum_there, in_reduced, value_whole, value_reduced, reduced_sizes}
 use Rattle.stream_model.specs.Labels.{loop_sizes}
 use Rattle.stream_model.specs.Reduction.{Reduces}
@@ -229,9 +229,9 @@ shorter_fill test closed ((s, false) ∷ loops) (a ∷ p) q h =
     ∙ list_any-mono (λ c. list_any test (map (λ u. c ∷ u) (fill (until (suc (length (p ++ q))) loops) (a ∷ (p ++ q)))))
     (λ c. list_any test (map (λ u. c ∷ u) (fill (until (suc (length p)) loops) (a ∷ p))))
     (λ c k.
-      list_any-map test (λ (u : List ℕ). c ∷ u) (fill (until (suc (length p)) loops) (a ∷ p))
-      ∙ shorter_fill (λ u. test (c ∷ u)) (after_one test c closed) loops (a ∷ p) q
-      (sym (list_any-map test (λ (u : List ℕ). c ∷ u) (fill (until (suc (length (p ++ q))) loops) (a ∷ (p ++ q)))) ∙ k))
+    list_any-map test (λ (u : List ℕ). c ∷ u) (fill (until (suc (length p)) loops) (a ∷ p))
+    ∙ shorter_fill (λ u. test (c ∷ u)) (after_one test c closed) loops (a ∷ p) q
+    (sym (list_any-map test (λ (u : List ℕ). c ∷ u) (fill (until (suc (length (p ++ q))) loops) (a ∷ (p ++ q)))) ∙ k))
     (below s)
     (sym (list_any-flat_map test (λ c. map (λ u. c ∷ u) (fill (until (suc (length (p ++ q))) loops) (a ∷ (p ++ q)))) (below s)) ∙ h)
 
@@ -248,9 +248,9 @@ full_fill test closed ((s, false) ∷ loops) (a ∷ p) q h =
     ∙ list_any-mono (λ c. list_any test (map (λ u. c ∷ u) (fill loops (a ∷ (p ++ q)))))
     (λ c. list_any test (map (λ u. c ∷ u) (fill (until (suc (length p)) loops) (a ∷ p))))
     (λ c k.
-      list_any-map test (λ (u : List ℕ). c ∷ u) (fill (until (suc (length p)) loops) (a ∷ p))
-      ∙ full_fill (λ u. test (c ∷ u)) (after_one test c closed) loops (a ∷ p) q
-      (sym (list_any-map test (λ (u : List ℕ). c ∷ u) (fill loops (a ∷ (p ++ q)))) ∙ k))
+    list_any-map test (λ (u : List ℕ). c ∷ u) (fill (until (suc (length p)) loops) (a ∷ p))
+    ∙ full_fill (λ u. test (c ∷ u)) (after_one test c closed) loops (a ∷ p) q
+    (sym (list_any-map test (λ (u : List ℕ). c ∷ u) (fill loops (a ∷ (p ++ q)))) ∙ k))
     (below s)
     (sym (list_any-flat_map test (λ c. map (λ u. c ∷ u) (fill loops (a ∷ (p ++ q)))) (below s)) ∙ h)
 

@@ -1,8 +1,8 @@
 -- Stored prefixes: what is stored begins with what is stored, and what isn't stored has the value 0.
-use Rattle.std.specs.Prelude.{◌≡◌, ◌<◌, ◌≤◌, ℕ, zero, suc, ◌+◌, ◌%◌, ◌^◌, Bool, true, false, cond, ◌&&◌, ◌||◌, List, [], ◌∷◌, ◌++◌, length, take, eqb, refl}
+use Rattle.std.specs.Prelude.{◌≡◌, ◌≤◌, ℕ, zero, suc, ◌+◌, ◌%◌, ◌^◌, Bool, true, false, cond, ◌||◌, List, [], ◌∷◌, ◌++◌, length, take, eqb, refl}
 use Rattle.std.specs.List.{list_any}
-use Rattle.std.proofs.Common.{arith, sym, ◌∙◌, ap, length-append}
-use Rattle.std.proofs.lemmas.Bool.{and_parts}
+use Rattle.std.proofs.Common.{arith, sym, ap, length-append}
+use Rattle.std.proofs.lemmas.Bool.{and_parts, or_parts}
 use Rattle.std.proofs.lemmas.Bool.Decides.{nat_tests}
 use Rattle.std.proofs.lemmas.List.{take-append-le}
 use Rattle.sam_model.specs.declared.tensors.Format.{Format}
@@ -88,23 +88,15 @@ none_there : (q : ℕ) (c : List ℕ) (entries : List (List ℕ × ℕ)) → lis
 none_there q c [] h = refl
 none_there q c (e ∷ entries) h = by_case (same_list e.0 c) refl (none_there q c entries)
   where
-    or_left : (a b : Bool) → (a || b) ≡ false → a ≡ false
-    or_left true b h = h
-    or_left false b h = refl
-
-    or_right : (a b : Bool) → (a || b) ≡ false → b ≡ false
-    or_right true b h = absurd (cc)
-    or_right false b h = h
-
     by_case : (b : Bool) → same_list e.0 c ≡ b
         → (list_any (λ entry. same_list (take q entry.0) (take q c)) entries ≡ false → total (λ entry. cond (same_list entry.0 c) entry.1 0) entries ≡ 0)
         → cond b e.1 0 + total (λ entry. cond (same_list entry.0 c) entry.1 0) entries ≡ 0
     by_case true s r =
         let t : same_list (take q e.0) (take q c) ≡ true = agree_whole q e.0 c s in
-        let f : same_list (take q e.0) (take q c) ≡ false = or_left (same_list (take q e.0) (take q c)) (list_any (λ entry. same_list (take q entry.0) (take q c)) entries) h in
+        let f : same_list (take q e.0) (take q c) ≡ false = (or_parts (same_list (take q e.0) (take q c)) (list_any (λ entry. same_list (take q entry.0) (take q c)) entries) h).0 in
         absurd (cc)
     by_case false s r =
-        let z : total (λ entry. cond (same_list entry.0 c) entry.1 0) entries ≡ 0 = r (or_right (same_list (take q e.0) (take q c)) (list_any (λ entry. same_list (take q entry.0) (take q c)) entries) h) in
+        let z : total (λ entry. cond (same_list entry.0 c) entry.1 0) entries ≡ 0 = r ((or_parts (same_list (take q e.0) (take q c)) (list_any (λ entry. same_list (take q entry.0) (take q c)) entries) h).1) in
         omega (arith, z)
 
 pub value-unstored : (a : Stored) (c : List ℕ) → is_stored a c ≡ false → value_at a c ≡ 0

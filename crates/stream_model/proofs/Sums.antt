@@ -3,7 +3,7 @@ use Rattle.std.specs.Prelude.{◌≡◌, ℕ, ◌+◌, ◌%◌, ◌^◌, Bool, t
 use Rattle.std.specs.List.{flat_map, list_any}
 use mathlib.Core.List.{map}
 use Rattle.std.proofs.Common.{arith, sym, ◌∙◌, ap}
-use Rattle.std.proofs.Math.Nat.{mod-add-mod, add-mod-mod, mod-mod, add_assoc, add_comm}
+use Rattle.std.proofs.Math.Nat.{mod-add-mod, add-mod-mod, add_assoc, add_comm}
 use Rattle.sam_model.specs.Lists.{total}
 use Rattle.stream_tokens.specs.Nest.{Leaf}
 use Rattle.stream_model.specs.Trees.{plus_there, sum_there}
@@ -56,9 +56,9 @@ is_some-sum (x ∷ xs) = some_sum x (sum_there xs) ∙ ap (λ b. is_some x || b)
 abbrev pub where_passes : {A : Type 0} → (A → Bool) → (A → ℕ) → A → Leaf
 where_passes ok f x = cond (ok x) (Some (f x)) None
 
-nothing_passes : {A : Type 0} (ok : A → Bool) (f : A → ℕ) → ((x : A) → ok x ≡ false → f x ≡ 0) → (xs : List A) → list_any ok xs ≡ false → total f xs ≡ 0
-nothing_passes ok f z [] h = refl
-nothing_passes ok f z (x ∷ xs) h = by_case (ok x) refl h (nothing_passes ok f z xs)
+pub nothing-passes : {A : Type 0} (ok : A → Bool) (f : A → ℕ) → ((x : A) → ok x ≡ false → f x ≡ 0) → (xs : List A) → list_any ok xs ≡ false → total f xs ≡ 0
+nothing-passes ok f z [] h = refl
+nothing-passes ok f z (x ∷ xs) h = by_case (ok x) refl h (nothing-passes ok f z xs)
   where
     by_case : (b : Bool) → ok x ≡ b → (b || list_any ok xs) ≡ false → (list_any ok xs ≡ false → total f xs ≡ 0) → f x + total f xs ≡ 0
     by_case true e k r = absurd (cc)
@@ -90,6 +90,6 @@ sum-passes ok f z small (x ∷ xs) = by_case (ok x) (list_any ok xs) refl refl (
         ∙ ap (λ (n : ℕ). Some n) (add-mod-mod (f x) (total f xs) (2 ^ 64))
     by_case true false e k r =
         ap (plus_there (Some (f x))) (r ∙ ap (λ d. cond d (Some (total f xs % 2 ^ 64)) None) k)
-        ∙ ap (λ (n : ℕ). Some n) (with_rest (2 ^ 64) (f x) (total f xs) (small x) (nothing_passes ok f z xs k))
+        ∙ ap (λ (n : ℕ). Some n) (with_rest (2 ^ 64) (f x) (total f xs) (small x) (nothing-passes ok f z xs k))
     by_case false c e k r =
         r ∙ ap (λ (n : ℕ). cond (list_any ok xs) (Some n) None) (first_zero (2 ^ 64) (f x) (total f xs) (z x e))
