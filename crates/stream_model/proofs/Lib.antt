@@ -16,3 +16,5 @@ pub mod Orders
 pub mod Moduli
 pub mod Places
 pub mod Denoted
+pub mod Bridges
+pub mod Scans
