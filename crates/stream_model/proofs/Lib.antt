@@ -18,3 +18,4 @@ pub mod Places
 pub mod Denoted
 pub mod Bridges
 pub mod Scans
+pub mod Flat
