@@ -1,5 +1,5 @@
 -- The accesses of an accepted program: their coordinates at a tuple, and the sizes of their loops.
-use Rattle.std.specs.Prelude.{◌≡◌, ◌<◌, ℕ, zero, suc, Bool, true, false, ◌&&◌, ◌==◌, List, [], ◌∷◌, length, slice_index, nat_le, nat_lt, eqb, refl}
+use Rattle.std.specs.Prelude.{◌≡◌, ◌<◌, ℕ, zero, suc, Bool, true, false, cond, not, ◌&&◌, ◌==◌, List, [], ◌∷◌, length, slice_index, nat_le, nat_lt, eqb, refl}
 use Rattle.std.specs.List.{filter, list_any, list_all}
 use mathlib.Core.List.{map}
 use Rattle.std.proofs.Common.{arith, sym, ◌∙◌, ap, inl, inr, ◌⊎◌}
@@ -12,13 +12,15 @@ use Rattle.sam_model.specs.declared.program.Term.{Term}
 use Rattle.sam_model.specs.declared.program.Program.{Program}
 use Rattle.sam_model.specs.Lists.{below, items_at, is_in, coordinate}
 use Rattle.sam_model.specs.Denote.{has_var, loops_of, Loop, loop_list, tensor_at, stored_of, order_at, place_of}
-use Rattle.sam_model.specs.Accepted.{distinct, ascending, is_dimension, is_order, is_well_formed, is_operand, variables_fit, access_fits, tensor_passes, factor_fits, is_access, term_has, factor_reduces, term_fits, is_result, distinct_tensors, declarations_fit, statement_fits, accepted, distinct_names, stands}
+use Rattle.sam_model.specs.Accepted.{distinct, ascending, is_dimension, is_order, is_well_formed, is_operand, variables_fit, access_fits, tensor_passes, factor_fits, is_access, term_has, factor_reduces, term_fits, is_result, distinct_tensors, is_taken, is_compressed, declarations_fit, statement_fits, accepted, distinct_names, stands}
 use Rattle.stream_tokens.specs.Shapes.{Each}
 use Rattle.stream_tokens.proofs.Algebra.{map-map}
 use Rattle.stream_model.specs.Terms.{keep, access_at, mask_of, operands_of, term_data}
-use Rattle.stream_model.specs.Labels.{loop_sizes}
+use Rattle.stream_model.specs.Trees.{free_count, kept_sizes, reduced_sizes}
+use Rattle.stream_model.specs.Labels.{loop_sizes, result_sizes}
 use Rattle.stream_model.specs.Masks.{AllFit}
 use Rattle.stream_model.proofs.Lists.{filter-ext}
+use Rattle.stream_model.proofs.TermLaw.{kept-none}
 use Rattle.stream_model.proofs.Orders.{is_in-items, items_at-map, order-in-range, Rises, rises, Rises-range, filter-members, keep-map, coordinate-map}
 
 -- ---- what is accepted
@@ -31,7 +33,7 @@ accepted-operands p h =
 pub accepted-statement : (p : Program) → accepted p ≡ true → statement_fits p ≡ true
 accepted-statement p h = (and_parts (declarations_fit p.tensors p.result) (statement_fits p) h).1
 
--- the last of seven tests that hold
+-- the last of eight tests that hold
 last_of : (a b c d e f g h : Bool) → (a && (b && (c && (d && (e && (f && (g && h))))))) ≡ true → h ≡ true
 last_of true true true true true true true h k = k
 last_of true true true true true true false h k = absurd (cc)
@@ -121,43 +123,55 @@ pub record Placed (p : Program) (es : List Entries) (t : Term) (n : ℕ) (vars :
   pub at : (u : List ℕ) → length u ≡ length (loops_of p t) → place_of p (loops_of p t) u n vars ≡ keep (mask_of (loops_of p t) vars) u
   pub sizes : keep (mask_of (loops_of p t) vars) (loop_sizes (loop_list p t)) ≡ (tensor_at (stored_of p.tensors es) n).sizes
 
+-- the variables of one tensor are found among the loops of a term that has them
+pub record Kept (p : Program) (t : Term) (vars : List ℕ) (tensor : Tensor) : Type 0 where
+  pub permutes : is_order (length vars) tensor.order ≡ true
+  pub loops : filter (λ w. is_in w vars) (loops_of p t) ≡ items_at vars tensor.order
+  pub sizes : map (slice_index p.var_sizes) (items_at vars tensor.order) ≡ items_at tensor.dims tensor.order
+
+pub kept-at : (p : Program) (t : Term) (vars : List ℕ) (tensor : Tensor) → access_fits p.var_sizes vars tensor ≡ true → is_well_formed tensor ≡ true
+    → ((v : ℕ) → is_in v vars ≡ true → list_any (has_var v) t.factors ≡ true) → Kept p t vars tensor
+kept-at p t vars tensor fits well has = record { permutes = permutes; loops = loops; sizes = sizes }
+  where
+    v : Variables p.var_sizes tensor.dims vars
+    v =
+        variables p.var_sizes tensor.dims vars
+        (and_parts (variables_fit p.var_sizes tensor.dims vars) (distinct vars && ascending (items_at vars tensor.order)) fits).0
+
+    permutes : is_order (length vars) tensor.order ≡ true
+    permutes = ap (λ (k : ℕ). is_order k tensor.order) v.count ∙ well_ordered tensor well
+
+    rising : Rises 0 (items_at vars tensor.order)
+    rising =
+        let a = and_parts (variables_fit p.var_sizes tensor.dims vars) (distinct vars && ascending (items_at vars tensor.order)) fits in
+        rises (items_at vars tensor.order) (and_parts (distinct vars) (ascending (items_at vars tensor.order)) a.1).1
+
+    member : (w : ℕ) → is_in w (items_at vars tensor.order) ≡ true → (list_any (has_var w) t.factors ≡ true) × (w < length p.var_sizes)
+    member w e = let k : is_in w vars ≡ true = sym (is_in-items vars tensor.order w permutes) ∙ e in (has w k, v.in_range w k)
+
+    loops : filter (λ w. is_in w vars) (loops_of p t) ≡ items_at vars tensor.order
+    loops =
+        filter-ext (λ w. is_in w vars) (λ w. is_in w (items_at vars tensor.order)) (λ w. sym (is_in-items vars tensor.order w permutes)) (loops_of p t)
+        ∙ filter-members (λ w. list_any (has_var w) t.factors) 0 (length p.var_sizes) (length p.var_sizes) (items_at vars tensor.order) (omega arith) rising
+        (each_member (λ w. (list_any (has_var w) t.factors ≡ true) × (w < length p.var_sizes)) (items_at vars tensor.order) member)
+
+    sizes : map (slice_index p.var_sizes) (items_at vars tensor.order) ≡ items_at tensor.dims tensor.order
+    sizes =
+        sym (items_at-map (slice_index p.var_sizes) vars tensor.order (order-in-range (length vars) tensor.order permutes))
+        ∙ ap (λ (x : List ℕ). items_at x tensor.order) v.dims_are
+
 pub placed : (p : Program) (es : List Entries) (t : Term) (n : ℕ) (vars : List ℕ) → Declared p.var_sizes vars p.tensors es n
     → ((v : ℕ) → is_in v vars ≡ true → list_any (has_var v) t.factors ≡ true) → Placed p es t n vars
 placed p es t n vars d has = record { at = at; sizes = sizes }
   where
-    order : List ℕ
-    order = d.tensor.order
-
-    well : is_well_formed d.tensor ≡ true
-    well = (and_parts (nat_le 1 (length d.tensor.dims)) (is_well_formed d.tensor) d.operand).1
-
-    v : Variables p.var_sizes d.tensor.dims vars
-    v = variables p.var_sizes d.tensor.dims vars (and_parts (variables_fit p.var_sizes d.tensor.dims vars) (distinct vars && ascending (items_at vars order)) d.fits).0
-
-    is_permutation : is_order (length vars) d.tensor.order ≡ true
-    is_permutation = ap (λ (k : ℕ). is_order k d.tensor.order) v.count ∙ well_ordered d.tensor well
-
-    rising : Rises 0 (items_at vars d.tensor.order)
-    rising =
-        let a = and_parts (variables_fit p.var_sizes d.tensor.dims vars) (distinct vars && ascending (items_at vars d.tensor.order)) d.fits in
-        rises (items_at vars d.tensor.order) (and_parts (distinct vars) (ascending (items_at vars d.tensor.order)) a.1).1
-
-    member : (w : ℕ) → is_in w (items_at vars d.tensor.order) ≡ true → (list_any (has_var w) t.factors ≡ true) × (w < length p.var_sizes)
-    member w e =
-        let k : is_in w vars ≡ true = sym (is_in-items vars d.tensor.order w is_permutation) ∙ e in
-        (has w k, v.in_range w k)
-
-    kept : filter (λ w. is_in w vars) (loops_of p t) ≡ items_at vars d.tensor.order
-    kept =
-        filter-ext (λ w. is_in w vars) (λ w. is_in w (items_at vars d.tensor.order)) (λ w. sym (is_in-items vars d.tensor.order w is_permutation)) (loops_of p t)
-        ∙ filter-members (λ w. list_any (has_var w) t.factors) 0 (length p.var_sizes) (length p.var_sizes) (items_at vars d.tensor.order) (omega arith) rising
-        (each_member (λ w. (list_any (has_var w) t.factors ≡ true) × (w < length p.var_sizes)) (items_at vars d.tensor.order) member)
+    kept : Kept p t vars d.tensor
+    kept = kept-at p t vars d.tensor d.fits (and_parts (nat_le 1 (length d.tensor.dims)) (is_well_formed d.tensor) d.operand).1 has
 
     at : (u : List ℕ) → length u ≡ length (loops_of p t) → place_of p (loops_of p t) u n vars ≡ keep (mask_of (loops_of p t) vars) u
     at u e =
         ap (items_at (map (coordinate (loops_of p t) u) vars)) d.order_is
-        ∙ items_at-map (coordinate (loops_of p t) u) vars d.tensor.order (order-in-range (length vars) d.tensor.order is_permutation)
-        ∙ ap (map (coordinate (loops_of p t) u)) (sym kept)
+        ∙ items_at-map (coordinate (loops_of p t) u) vars d.tensor.order (order-in-range (length vars) d.tensor.order kept.permutes)
+        ∙ ap (map (coordinate (loops_of p t) u)) (sym kept.loops)
         ∙ sym (keep-map (λ w. is_in w vars) (coordinate (loops_of p t) u) (loops_of p t))
         ∙ ap (keep (mask_of (loops_of p t) vars))
         (coordinate-map 0 (loops_of p t) u (Rises-range (λ w. list_any (has_var w) t.factors) 0 (length p.var_sizes)) e)
@@ -166,9 +180,8 @@ placed p es t n vars d has = record { at = at; sizes = sizes }
     sizes =
         ap (keep (mask_of (loops_of p t) vars)) (map-map (λ (l : Loop). l.0) (λ w. (slice_index p.var_sizes w, is_in w p.left)) (loops_of p t))
         ∙ keep-map (λ w. is_in w vars) (slice_index p.var_sizes) (loops_of p t)
-        ∙ ap (map (slice_index p.var_sizes)) kept
-        ∙ sym (items_at-map (slice_index p.var_sizes) vars d.tensor.order (order-in-range (length vars) d.tensor.order is_permutation))
-        ∙ ap (λ (x : List ℕ). items_at x d.tensor.order) v.dims_are
+        ∙ ap (map (slice_index p.var_sizes)) kept.loops
+        ∙ kept.sizes
         ∙ sym d.sizes_are
 
 -- ---- all accesses of a term
@@ -208,3 +221,67 @@ all_fit p es t (Literal n ∷ factors) h f l = all_fit p es t factors h f l
 pub term-fit : (p : Program) (es : List Entries) (first : Bool) (t : Term) → accepted p ≡ true → term_fits p.tensors p.var_sizes p.left t ≡ true
     → length es ≡ length p.tensors → AllFit (term_data p es first t)
 term-fit p es first t h k e = all_fit p es t t.factors (term-placed p es t h k e)
+
+-- ---- the levels of the result
+
+kept_sizes_map : (size : ℕ → ℕ) (test : ℕ → Bool) (vs : List ℕ) → kept_sizes (map (λ v. (size v, test v)) vs) ≡ map size (filter test vs)
+kept_sizes_map size test [] = refl
+kept_sizes_map size test (v ∷ vs) = by_case (test v) (kept_sizes_map size test vs)
+  where
+    by_case : (b : Bool) → kept_sizes (map (λ v. (size v, test v)) vs) ≡ map size (filter test vs)
+        → cond b (size v ∷ kept_sizes (map (λ v. (size v, test v)) vs)) (kept_sizes (map (λ v. (size v, test v)) vs)) ≡ map size (cond b (v ∷ filter test vs) (filter test vs))
+    by_case true e = ap (λ (x : List ℕ). size v ∷ x) e
+    by_case false e = e
+
+fifth_of : (a b c d e f g h : Bool) → (a && (b && (c && (d && (e && (f && (g && h))))))) ≡ true → e ≡ true
+fifth_of true true true true e f g h k = (and_parts e (f && (g && h)) k).0
+fifth_of true true true false e f g h k = absurd (cc)
+fifth_of true true false d e f g h k = absurd (cc)
+fifth_of true false c d e f g h k = absurd (cc)
+fifth_of false b c d e f g h k = absurd (cc)
+
+pub accepted-result : (p : Program) → accepted p ≡ true → (access_fits p.var_sizes p.left p.result ≡ true) × (is_well_formed p.result ≡ true)
+accepted-result p h =
+    let d = and_parts (declarations_fit p.tensors p.result) (statement_fits p) h in
+    let a = and_parts (list_all is_operand p.tensors) (is_result p.result && (distinct_tensors p.tensors && not (is_taken p.result.name p.tensors))) d.0 in
+    let b = and_parts (is_result p.result) (distinct_tensors p.tensors && not (is_taken p.result.name p.tensors)) a.1 in (
+      fifth_of (length p.var_names == length p.var_sizes) (nat_le (length p.var_sizes) 8) (distinct_names p.var_names)
+      (list_all (stands p.left p.terms) (below (length p.var_sizes))) (access_fits p.var_sizes p.left p.result) (nat_le 1 (length p.terms))
+      (nat_le (length p.terms) 16) (list_all (term_fits p.tensors p.var_sizes p.left) p.terms) d.1,
+      (and_parts (is_well_formed p.result) (list_all is_compressed p.result.formats) b.0).0,
+    )
+
+left_of : (a b c d e f : Bool) → (a && (b && (c && (d && (e && f))))) ≡ true → e ≡ true
+left_of true true true true e f k = (and_parts e f k).0
+left_of true true true false e f k = absurd (cc)
+left_of true true false d e f k = absurd (cc)
+left_of true false c d e f k = absurd (cc)
+left_of false b c d e f k = absurd (cc)
+
+has_all : (t : Term) (vs : List ℕ) → list_all (term_has t) vs ≡ true → (v : ℕ) → is_in v vs ≡ true → list_any (has_var v) t.factors ≡ true
+has_all t [] h v e = absurd (cc)
+has_all t (w ∷ vs) h v e = by_case (or_cases (eqb v w) (is_in v vs) e) (has_all t vs (and_parts (term_has t w) (list_all (term_has t) vs) h).1 v)
+  where
+    by_case : (eqb v w ≡ true) ⊎ (is_in v vs ≡ true) → (is_in v vs ≡ true → list_any (has_var v) t.factors ≡ true) → list_any (has_var v) t.factors ≡ true
+    by_case (inl k) r =
+        ap (λ (x : ℕ). list_any (has_var x) t.factors) (eqb-true v w k) ∙ (and_parts (term_has t w) (list_all (term_has t) vs) h).0
+    by_case (inr k) r = r k
+
+-- each term has the variables of the left, in the order of the result's levels
+pub term-left : (p : Program) (t : Term) → accepted p ≡ true → term_fits p.tensors p.var_sizes p.left t ≡ true → Kept p t p.left p.result
+term-left p t h k =
+    let r = accepted-result p h in
+    kept-at p t p.left p.result r.0 r.1
+    (has_all t p.left
+    (left_of (nat_le 1 (length t.factors)) (nat_le (length t.factors) 8) (list_all (factor_fits p.tensors p.var_sizes) t.factors)
+    (list_any is_access t.factors) (list_all (term_has t) p.left) (list_all (factor_reduces p.left) t.factors) k))
+
+-- the tree of a term has the sizes of the result's levels
+pub term-sizes : (p : Program) (es : List Entries) (first : Bool) (t : Term) → accepted p ≡ true → term_fits p.tensors p.var_sizes p.left t ≡ true
+    → reduced_sizes (term_data p es first t) (free_count (loop_list p t)) ≡ result_sizes p
+term-sizes p es first t h k =
+    let kept = term-left p t h k in
+    ap kept_sizes (kept-none (free_count (loop_list p t)) (loop_list p t) (omega arith))
+    ∙ kept_sizes_map (slice_index p.var_sizes) (λ v. is_in v p.left) (loops_of p t)
+    ∙ ap (map (slice_index p.var_sizes)) kept.loops
+    ∙ kept.sizes
