@@ -19,3 +19,4 @@ pub mod Denoted
 pub mod Bridges
 pub mod Scans
 pub mod Flat
+pub mod Sides
