@@ -20,3 +20,4 @@ pub mod Bridges
 pub mod Scans
 pub mod Flat
 pub mod Sides
+pub mod Results

@@ -5,7 +5,7 @@ use mathlib.Core.List.{map}
 use Rattle.std.proofs.Common.{arith, sym, ◌∙◌, ap, take-suc, ◌⊎◌, inl, inr}
 use Rattle.std.proofs.lemmas.Bool.{and_parts, and_from, cases_lt, or_left, or_right}
 use Rattle.std.proofs.lemmas.Bool.Decides.{nat_tests}
-use Rattle.std.proofs.lemmas.List.{length_push}
+use Rattle.std.proofs.lemmas.List.{length_push, take_all}
 use Rattle.std.proofs.lemmas.List.Folds.{list_any-append}
 use Rattle.sam_model.specs.Lists.{below}
 use Rattle.stream_tokens.specs.Nest.{Leaf}
@@ -109,12 +109,6 @@ joined-left ss last = refl
 pub joined-first : (s : Summand) (ss : List Summand) (p : List ℕ) → ((joined (s ∷ ss) 0).has p ≡ in_term s.term p) × ((joined (s ∷ ss) 0).value p ≡ signed s p)
 joined-first s ss p = (or-false (in_term s.term p), plus-none (signed s p))
 
-take_all : (ss : List Summand) (n : ℕ) → length ss ≤ n → take n ss ≡ ss
-take_all [] zero h = refl
-take_all [] (suc n) h = refl
-take_all (s ∷ ss) zero h = absurd (omega (arith, h))
-take_all (s ∷ ss) (suc n) h = ap (λ (xs : List Summand). s ∷ xs) (take_all ss n (omega (arith, h)))
-
 -- the last of them has all terms
 pub joined-all : (ss : List Summand) (last : ℕ) → suc last ≡ length ss → joined ss last ≡ join_of ss
-joined-all ss last h = ap join_of (take_all ss (suc last) (omega (arith, h)))
+joined-all ss last h = ap join_of (take_all (suc last) ss (omega (arith, h)))
