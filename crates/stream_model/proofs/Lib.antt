@@ -21,3 +21,4 @@ pub mod Scans
 pub mod Flat
 pub mod Sides
 pub mod Results
+pub mod Numbers
