@@ -9,11 +9,16 @@ use Rattle.std.proofs.lemmas.List.{length_push, take_all}
 use Rattle.std.proofs.lemmas.List.Folds.{list_any-append}
 use Rattle.sam_model.specs.Lists.{below}
 use Rattle.stream_tokens.specs.Nest.{Leaf}
+use Rattle.stream_tokens.specs.Shapes.{on_tokens, under}
+use Rattle.stream_tokens.proofs.Algebra.{under-ext}
+use Rattle.stream_model.specs.declared.labels.Side.{Side}
+use Rattle.stream_model.specs.Grow.{next, longer, path_fibers}
 use Rattle.stream_model.specs.declared.labels.Side.TheVariants.{Left, Right}
 use Rattle.stream_model.specs.Terms.{TermData, Summand, no_summand, summand_at}
 use Rattle.stream_model.specs.Trees.{free_count, in_reduced, value_reduced, reduced_sizes, begins_value, in_pruned, in_term, value_term, plus_there, sum_there}
-use Rattle.stream_model.specs.Joins.{negated, signed, join_of, joined, side_part}
-use Rattle.stream_model.proofs.Lists.{not-true, or-false, list_any-mono}
+use Rattle.stream_model.specs.Joins.{negated, signed, join_of, joined, side_part, in_beside}
+use Rattle.stream_model.proofs.Lists.{not-true, or-false, list_any-mono, filter-ext}
+use Rattle.stream_model.proofs.Grown.{InTree, tokens-suc, paths-InTree, paths-same}
 use Rattle.stream_model.proofs.Sums.{plus-none, sum-append}
 use Rattle.stream_model.proofs.Reduced.{reduced-begins}
 use Rattle.stream_model.proofs.Pruned.{early-test, late-test, begins-next, begins-full}
@@ -112,3 +117,50 @@ joined-first s ss p = (or-false (in_term s.term p), plus-none (signed s p))
 -- the last of them has all terms
 pub joined-all : (ss : List Summand) (last : ℕ) → suc last ≡ length ss → joined ss last ≡ join_of ss
 joined-all ss last h = ap join_of (take_all (suc last) ss (omega (arith, h)))
+
+-- ---- beneath a join
+
+is_shorter : (n d : ℕ) (x y : Bool) → n < d → cond (ltb n d) x y ≡ x
+is_shorter n d x y h = let e : ltb n d ≡ true = grind (arith, nat_tests) in rw e refl
+
+is_last : (n d : ℕ) (x y : Bool) → n ≡ d → cond (ltb n d) x y ≡ y
+is_last n d x y h = let e : ltb n d ≡ false = grind (arith, nat_tests) in rw e refl
+
+beside_upper : (sizes : List ℕ) (ss : List Summand) (last : ℕ) (side : Side) (d : ℕ) → (joined ss last).has [] ≡ true
+    → path_fibers (in_beside ss last side (suc d)) sizes d ≡ path_fibers (joined ss last).has sizes d
+beside_upper sizes ss last side d root = paths-same (in_beside ss last side (suc d)) (joined ss last).has sizes sizes (here root) d step
+  where
+    here : (joined ss last).has [] ≡ true → in_beside ss last side (suc d) [] ≡ true
+    here r = is_shorter 0 (suc d) ((joined ss last).has []) ((side_part ss last side).has []) (omega arith) ∙ r
+
+    step : (n : ℕ) (p : List ℕ) → n < d → InTree (in_beside ss last side (suc d)) sizes n p
+        → longer (in_beside ss last side (suc d)) sizes p ≡ longer (joined ss last).has sizes p
+    step n p k i =
+        ap (λ (cs : List ℕ). map (λ c. p ++ c ∷ []) cs)
+        (filter-ext (λ c. in_beside ss last side (suc d) (p ++ c ∷ [])) (λ c. (joined ss last).has (p ++ c ∷ []))
+        (λ c. is_shorter (length (p ++ c ∷ [])) (suc d) ((joined ss last).has (p ++ c ∷ [])) ((side_part ss last side).has (p ++ c ∷ []))
+          (omega (arith, length_push p c, i.count, k)))
+        (below (slice_index sizes (length p))))
+
+-- the tokens of a side beneath the joined prefixes that are one shorter
+pub beside-tokens : {B : Type 0} (sizes : List ℕ) (ss : List Summand) (last : ℕ) (side : Side) (d : ℕ) (tok : List ℕ → B) → (joined ss last).has [] ≡ true
+    → on_tokens tok (path_fibers (in_beside ss last side (suc d)) sizes (suc d))
+    ≡ under (λ p. map (λ c. tok (p ++ c ∷ [])) (next (side_part ss last side).has sizes p)) (path_fibers (joined ss last).has sizes d)
+beside-tokens sizes ss last side d tok root =
+    tokens-suc (in_beside ss last side (suc d)) sizes d tok
+    ∙ under-ext (InTree (in_beside ss last side (suc d)) sizes d)
+    (λ p. map (λ c. tok (p ++ c ∷ [])) (next (in_beside ss last side (suc d)) sizes p))
+    (λ p. map (λ c. tok (p ++ c ∷ [])) (next (side_part ss last side).has sizes p)) one
+    (path_fibers (in_beside ss last side (suc d)) sizes d)
+    (paths-InTree (in_beside ss last side (suc d)) sizes
+    (is_shorter 0 (suc d) ((joined ss last).has []) ((side_part ss last side).has []) (omega arith) ∙ root) d)
+    ∙ ap (under (λ p. map (λ c. tok (p ++ c ∷ [])) (next (side_part ss last side).has sizes p))) (beside_upper sizes ss last side d root)
+  where
+    one : (p : List ℕ) → InTree (in_beside ss last side (suc d)) sizes d p
+        → map (λ c. tok (p ++ c ∷ [])) (next (in_beside ss last side (suc d)) sizes p) ≡ map (λ c. tok (p ++ c ∷ [])) (next (side_part ss last side).has sizes p)
+    one p i =
+        ap (map (λ c. tok (p ++ c ∷ [])))
+        (filter-ext (λ c. in_beside ss last side (suc d) (p ++ c ∷ [])) (λ c. (side_part ss last side).has (p ++ c ∷ []))
+        (λ c. is_last (length (p ++ c ∷ [])) (suc d) ((joined ss last).has (p ++ c ∷ [])) ((side_part ss last side).has (p ++ c ∷ []))
+          (omega (arith, length_push p c, i.count)))
+        (below (slice_index sizes (length p))))
