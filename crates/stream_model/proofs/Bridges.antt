@@ -1,21 +1,21 @@
 -- Streams that have more than one label, and the steps of products.
-use Rattle.std.specs.Prelude.{◌≡◌, ◌<◌, ◌≤◌, ℕ, zero, suc, ◌+◌, ◌*◌, ◌%◌, ◌^◌, Bool, cond, List, [], ◌∷◌, ◌++◌, length, take, get_or, Some, None, refl}
+use Rattle.std.specs.Prelude.{◌≡◌, ◌<◌, ◌≤◌, ℕ, zero, suc, ◌*◌, ◌%◌, ◌^◌, Bool, cond, List, [], ◌∷◌, length, take, Some, None, refl}
 use Rattle.std.proofs.Common.{arith, sym, ◌∙◌, ap, subst, mul_assoc, mul_comm, mul-one, one-mul}
 use Rattle.sam_model.specs.Tensors.{Stored, rank_of, value_at}
 use Rattle.sam_model.specs.Denote.{Loop}
-use Rattle.stream_tokens.specs.Nest.{Fiber, Leaf}
+use Rattle.stream_tokens.specs.Nest.{Fiber}
 use Rattle.stream_tokens.specs.Shapes.{on_tokens, EachToken}
 use Rattle.stream_tokens.proofs.Algebra.{on_tokens-ext}
 use Rattle.stream_model.specs.declared.labels.Attr.TheVariants.{Rank, Whole, Value, Literal}
 use Rattle.stream_model.specs.Grow.{path_fibers}
 use Rattle.stream_model.specs.Terms.{Operand, TermData, keep, restricted, access_at, product_of, partial, whole}
-use Rattle.stream_model.specs.Trees.{in_product, in_whole, in_reduced, in_pruned, value_whole, value_reduced, reduced_sizes, kept_loops}
-use Rattle.stream_model.specs.Labels.{loop_sizes, token, root_shape, product_shape, reduced_shape, fibers_at}
+use Rattle.stream_model.specs.Trees.{in_product, in_whole, in_pruned, value_reduced, reduced_sizes}
+use Rattle.stream_model.specs.Labels.{loop_sizes, root_shape, product_shape, reduced_shape, fibers_at}
 use Rattle.stream_model.specs.Masks.{final}
 use Rattle.stream_model.specs.Reduction.{Reduces}
 use Rattle.stream_model.proofs.Grown.{InTree, paths-InTree}
 use Rattle.stream_model.proofs.Products.{paths-final}
-use Rattle.stream_model.proofs.Reduced.{all_kept, same-paths, same-before, same-after, same-whole, value-full}
+use Rattle.stream_model.proofs.Reduced.{same-before, same-after, same-whole, value-full}
 use Rattle.stream_model.proofs.Pruned.{paths-unpruned}
 use Rattle.stream_model.proofs.Moduli.{mod-mul-mod}
 

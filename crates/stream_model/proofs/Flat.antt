@@ -1,17 +1,17 @@
 -- All prefixes of a length, in the order of their stream: the tuples that pass, ascending.
-use Rattle.std.specs.Prelude.{◌≡◌, ◌<◌, ◌≤◌, ℕ, zero, suc, ◌+◌, Bool, true, false, cond, List, [], ◌∷◌, ◌++◌, length, take, slice_index, refl}
+use Rattle.std.specs.Prelude.{◌≡◌, ◌<◌, ◌≤◌, ℕ, zero, suc, Bool, true, false, cond, List, [], ◌∷◌, ◌++◌, length, take, slice_index, refl}
 use Rattle.std.specs.List.{flat_map, filter}
 use mathlib.Core.List.{map}
-use Rattle.std.proofs.Common.{arith, sym, ◌∙◌, ap, subst, append_assoc, append-nil}
+use Rattle.std.proofs.Common.{arith, sym, ◌∙◌, ap, subst}
 use Rattle.std.proofs.lemmas.Grind.{flat_map-append}
 use Rattle.std.proofs.lemmas.List.Elements.{filter-append}
 use Rattle.std.proofs.lemmas.List.Folds.{flat_map-map}
 use Rattle.sam_model.specs.Lists.{below, tuples}
-use Rattle.stream_tokens.specs.Nest.{Fiber, spread, beneath}
+use Rattle.stream_tokens.specs.Nest.{Fiber, spread}
 use Rattle.stream_tokens.specs.Shapes.{on_tokens, beneath_by, under, Each}
 use Rattle.stream_tokens.proofs.Algebra.{map-map}
 use Rattle.stream_model.specs.Grow.{longer, path_fibers}
-use Rattle.stream_model.proofs.Lists.{Each-range, Each-always, Each-map, Each-flat_map, map-ext, flat_map-ext, map-flat_map, filter-ext}
+use Rattle.stream_model.proofs.Lists.{Each-range, Each-always, Each-map, Each-flat_map, flat_map-ext, map-flat_map, filter-none}
 use Rattle.stream_model.proofs.Grown.{path_fibers-suc}
 
 -- ---- the tokens of fibers in a row
@@ -105,10 +105,6 @@ filter_map ok f (c ∷ cs) = by_case (ok (f c)) (filter_map ok f cs)
     by_case true e = ap (λ (t : List (List ℕ)). f c ∷ t) e
     by_case false e = e
 
-none_pass : (n : ℕ) (test : ℕ → Bool) → ((c : ℕ) → c < n → test c ≡ false) → (cs : List ℕ) → Each (λ c. c < n) cs → filter test cs ≡ []
-none_pass n test h [] e = refl
-none_pass n test h (c ∷ cs) e = rw (h c e.0) (none_pass n test h cs e.1)
-
 one_more : (ok : List ℕ → Bool) (sizes : List ℕ) (k : ℕ) → ClosedUnder ok sizes → (ps : List (List ℕ)) → Each (λ p. length p ≡ k) ps
     → flat_map (longer ok sizes) (filter ok ps) ≡ filter ok (flat_map (followed (slice_index sizes k)) ps)
 one_more ok sizes k closed [] h = refl
@@ -122,7 +118,7 @@ one_more ok sizes k closed (p ∷ ps) h = by_case (ok p) refl (one_more ok sizes
     nothing : ok p ≡ false → filter ok (followed (slice_index sizes k) p) ≡ []
     nothing e =
         filter_map ok (λ c. p ++ c ∷ []) (below (slice_index sizes k))
-        ∙ ap (λ (cs : List ℕ). map (λ c. p ++ c ∷ []) cs) (none_pass (slice_index sizes k) (λ c. ok (p ++ c ∷ [])) (λ c l. closed p c (subst (λ (n : ℕ). c < slice_index sizes n) (sym h.0) l) e) (below (slice_index sizes k))
+        ∙ ap (λ (cs : List ℕ). map (λ c. p ++ c ∷ []) cs) (filter-none (slice_index sizes k) (λ c. ok (p ++ c ∷ [])) (λ c l. closed p c (subst (λ (n : ℕ). c < slice_index sizes n) (sym h.0) l) e) (below (slice_index sizes k))
         (Each-range 0 (slice_index sizes k) (slice_index sizes k) (omega arith)))
 
     by_case : (b : Bool) → ok p ≡ b → flat_map (longer ok sizes) (filter ok ps) ≡ filter ok (flat_map (followed (slice_index sizes k)) ps)

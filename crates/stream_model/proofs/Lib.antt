@@ -22,3 +22,4 @@ pub mod Flat
 pub mod Sides
 pub mod Results
 pub mod Numbers
+pub mod Fills

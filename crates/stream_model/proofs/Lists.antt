@@ -82,6 +82,11 @@ filter-ext-each Q p q h (x ∷ xs) e = rw (h x e.0, filter-ext-each Q p q h xs e
 pub filter-ext : {A : Type 0} (p q : A → Bool) → ((x : A) → p x ≡ q x) → (xs : List A) → filter p xs ≡ filter q xs
 filter-ext {A = A} p q h xs = filter-ext-each (λ (x : A). Unit {0}) p q (λ x e. h x) xs (Each-always (λ (x : A). Unit {0}) (λ x. tt) xs)
 
+-- where the test fails below n, nothing below n passes
+pub filter-none : (n : ℕ) (test : ℕ → Bool) → ((c : ℕ) → c < n → test c ≡ false) → (cs : List ℕ) → Each (λ c. c < n) cs → filter test cs ≡ []
+filter-none n test h [] e = refl
+filter-none n test h (c ∷ cs) e = rw (h c e.0) (filter-none n test h cs e.1)
+
 -- what passes a test over a range
 pub filter-range : (test : ℕ → Bool) (a n m : ℕ) → a + n ≡ m → Each (λ c. (test c ≡ true) × (c < m)) (filter test (range_with_len a n))
 filter-range test a zero m e = tt

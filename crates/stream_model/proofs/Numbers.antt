@@ -1,5 +1,5 @@
 -- Masks as numbers, and as unions of single accesses.
-use Rattle.std.specs.Prelude.{◌≡◌, ◌<◌, ◌⊎◌, ℕ, zero, suc, ◌^◌, ◌%◌, ◌/◌, max, Bool, true, false, ◌||◌, List, [], ◌∷◌, length, get_or, eqb, refl}
+use Rattle.std.specs.Prelude.{◌≡◌, ◌<◌, ◌⊎◌, ℕ, zero, suc, ◌^◌, ◌/◌, max, Bool, false, ◌||◌, List, [], ◌∷◌, length, get_or, eqb, refl}
 use Rattle.std.specs.Int.{bit_at}
 use Rattle.std.specs.Int.Bits.{bit_or}
 use Rattle.std.proofs.Common.{arith, sym, ◌∙◌, ap, inl, inr}

@@ -246,8 +246,8 @@ accepted-result p h =
     let a = and_parts (list_all is_operand p.tensors) (is_result p.result && (distinct_tensors p.tensors && not (is_taken p.result.name p.tensors))) d.0 in
     let b = and_parts (is_result p.result) (distinct_tensors p.tensors && not (is_taken p.result.name p.tensors)) a.1 in (
       fifth_of (length p.var_names == length p.var_sizes) (nat_le (length p.var_sizes) 8) (distinct_names p.var_names)
-      (list_all (stands p.left p.terms) (below (length p.var_sizes))) (access_fits p.var_sizes p.left p.result) (nat_le 1 (length p.terms))
-      (nat_le (length p.terms) 16) (list_all (term_fits p.tensors p.var_sizes p.left) p.terms) d.1,
+          (list_all (stands p.left p.terms) (below (length p.var_sizes))) (access_fits p.var_sizes p.left p.result) (nat_le 1 (length p.terms))
+          (nat_le (length p.terms) 16) (list_all (term_fits p.tensors p.var_sizes p.left) p.terms) d.1,
       (and_parts (is_well_formed p.result) (list_all is_compressed p.result.formats) b.0).0,
     )
 

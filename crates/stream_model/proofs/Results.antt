@@ -1,9 +1,9 @@
 -- The full prefixes of a program's last tree, in order, are its pattern, with the numbers that it denotes.
-use Rattle.std.specs.Prelude.{◌≡◌, ◌<◌, ◌≤◌, ℕ, zero, suc, ◌+◌, Bool, true, false, cond, ◌&&◌, ◌||◌, List, [], ◌∷◌, ◌++◌, length, take, slice_index, nat_le, Some, None, is_some, refl}
+use Rattle.std.specs.Prelude.{◌≡◌, ◌<◌, ◌≤◌, ℕ, zero, suc, Bool, true, false, cond, ◌&&◌, ◌||◌, List, [], ◌∷◌, ◌++◌, length, take, slice_index, Some, None, is_some, refl}
 use Rattle.std.specs.List.{filter, list_any, list_all}
 use mathlib.Core.List.{map}
 use Rattle.std.proofs.Common.{arith, sym, ◌∙◌, ap}
-use Rattle.std.proofs.lemmas.Bool.{and_parts, or_left, or_right, leb-true}
+use Rattle.std.proofs.lemmas.Bool.{and_parts, or_left, or_right}
 use Rattle.std.proofs.lemmas.List.{length-map, take_all}
 use Rattle.sam_model.specs.declared.tensors.Entries.{Entries}
 use Rattle.sam_model.specs.declared.program.Term.{Term}
@@ -11,17 +11,16 @@ use Rattle.sam_model.specs.declared.program.Program.{Program}
 use Rattle.sam_model.specs.Lists.{tuples}
 use Rattle.sam_model.specs.Denote.{loop_list, term_at, den, pat, result_entries}
 use Rattle.sam_model.specs.Accepted.{term_fits, accepted}
-use Rattle.stream_tokens.specs.Nest.{Fiber, Leaf}
 use Rattle.stream_tokens.specs.Shapes.{on_tokens, Each}
 use Rattle.stream_tokens.proofs.Algebra.{map-map, Each-imp}
 use Rattle.stream_model.specs.declared.labels.Attr.TheVariants.{Coordinate, Value}
 use Rattle.stream_model.specs.Grow.{path_fibers}
 use Rattle.stream_model.specs.Terms.{TermData, Summand, term_data, further_summand, summands_of, summands}
 use Rattle.stream_model.specs.Trees.{free_count, value_reduced, reduced_sizes, begins_value, in_pruned, in_term, value_term}
-use Rattle.stream_model.specs.Joins.{join_of, joined}
+use Rattle.stream_model.specs.Joins.{join_of}
 use Rattle.stream_model.specs.Labels.{Shape, last, result_sizes, joined_shape, fibers_at}
 use Rattle.stream_model.proofs.Lists.{not-true, map-ext-each, filter-ext, filter-ext-each}
-use Rattle.stream_model.proofs.Places.{AllPlaced, accepted-terms, term-placed, term-sizes}
+use Rattle.stream_model.proofs.Places.{AllPlaced, accepted-terms, term-sizes}
 use Rattle.stream_model.proofs.Pruned.{late-test, begins-full}
 use Rattle.stream_model.proofs.Denoted.{has_stored, signed_number, EachPlaced, accepted-placed, term-value, join-denotes, term-denotes}
 use Rattle.stream_model.proofs.Flat.{in_order, in_order-tokens, ClosedUnder, tuples-long, flat-paths}

@@ -1,7 +1,7 @@
 -- The levels of a tensor under the loops of its access: lengths, sizes, and the coordinates that follow.
-use Rattle.std.specs.Prelude.{◌≡◌, ◌<◌, ℕ, zero, suc, Bool, true, false, cond, not, ◌&&◌, ◌||◌, List, [], ◌∷◌, ◌++◌, length, slice_index, get_or, ltb, refl}
+use Rattle.std.specs.Prelude.{◌≡◌, ◌<◌, ℕ, zero, suc, Bool, true, false, List, [], ◌∷◌, ◌++◌, length, slice_index, get_or, ltb, refl}
 use Rattle.std.specs.List.{filter}
-use Rattle.std.proofs.Common.{arith, sym, ◌∙◌, ap}
+use Rattle.std.proofs.Common.{sym, ◌∙◌, ap}
 use Rattle.std.proofs.lemmas.Bool.{and_parts, and_from}
 use Rattle.sam_model.specs.Lists.{below, within}
 use Rattle.sam_model.specs.Tensors.{is_stored}

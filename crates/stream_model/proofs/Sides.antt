@@ -1,9 +1,9 @@
 -- Trees of terms and their joins: prefixes that begin what is in the tree, and the two sides of a join.
-use Rattle.std.specs.Prelude.{◌≡◌, ◌<◌, ◌≤◌, ℕ, zero, suc, ◌+◌, Bool, true, false, cond, ◌&&◌, ◌||◌, List, [], ◌∷◌, ◌++◌, length, take, slice_index, get_or, ltb, is_some, refl}
+use Rattle.std.specs.Prelude.{◌≡◌, ◌<◌, ◌≤◌, ℕ, zero, suc, ◌+◌, Bool, true, false, cond, ◌||◌, List, [], ◌∷◌, ◌++◌, length, take, slice_index, ltb, is_some, refl}
 use Rattle.std.specs.List.{list_any, range_with_len}
 use mathlib.Core.List.{map}
 use Rattle.std.proofs.Common.{arith, sym, ◌∙◌, ap, take-suc, ◌⊎◌, inl, inr}
-use Rattle.std.proofs.lemmas.Bool.{and_parts, and_from, cases_lt, or_left, or_right}
+use Rattle.std.proofs.lemmas.Bool.{and_parts, cases_lt, or_left, or_right}
 use Rattle.std.proofs.lemmas.Bool.Decides.{nat_tests}
 use Rattle.std.proofs.lemmas.List.{length_push, take_all}
 use Rattle.std.proofs.lemmas.List.Folds.{list_any-append}
@@ -139,7 +139,7 @@ beside_upper sizes ss last side d root = paths-same (in_beside ss last side (suc
         ap (λ (cs : List ℕ). map (λ c. p ++ c ∷ []) cs)
         (filter-ext (λ c. in_beside ss last side (suc d) (p ++ c ∷ [])) (λ c. (joined ss last).has (p ++ c ∷ []))
         (λ c. is_shorter (length (p ++ c ∷ [])) (suc d) ((joined ss last).has (p ++ c ∷ [])) ((side_part ss last side).has (p ++ c ∷ []))
-          (omega (arith, length_push p c, i.count, k)))
+        (omega (arith, length_push p c, i.count, k)))
         (below (slice_index sizes (length p))))
 
 -- the tokens of a side beneath the joined prefixes that are one shorter
@@ -162,5 +162,5 @@ beside-tokens sizes ss last side d tok root =
         ap (map (λ c. tok (p ++ c ∷ [])))
         (filter-ext (λ c. in_beside ss last side (suc d) (p ++ c ∷ [])) (λ c. (side_part ss last side).has (p ++ c ∷ []))
         (λ c. is_last (length (p ++ c ∷ [])) (suc d) ((joined ss last).has (p ++ c ∷ [])) ((side_part ss last side).has (p ++ c ∷ []))
-          (omega (arith, length_push p c, i.count)))
+        (omega (arith, length_push p c, i.count)))
         (below (slice_index sizes (length p))))
