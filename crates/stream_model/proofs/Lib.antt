@@ -23,3 +23,4 @@ pub mod Sides
 pub mod Results
 pub mod Numbers
 pub mod Fills
+pub mod Depths

@@ -162,14 +162,20 @@ Rises-range test a (suc n) = by_case (test a) (Rises-range test (a + 1) n)
     by_case true r = (omega arith, Rises-weaker (a + 1) (suc a) (filter test (range_with_len (a + 1) n)) (omega arith) r)
     by_case false r = Rises-weaker (a + 1) a (filter test (range_with_len (a + 1) n)) (omega arith) r
 
-not_above : (v a : ℕ) (xs : List ℕ) → v < a → Rises a xs → is_in v xs ≡ false
-not_above v a [] h r = refl
-not_above v a (x ∷ xs) h r =
+-- a number below the first isn't among them
+pub not-above : (v a : ℕ) (xs : List ℕ) → v < a → Rises a xs → is_in v xs ≡ false
+not-above v a [] h r = refl
+not-above v a (x ∷ xs) h r =
     let e : eqb v x ≡ false = apart_from v x (omega (arith, h, r.0)) in
-    rw e (not_above v (suc x) xs (omega (arith, h, r.0)) r.1)
+    rw e (not-above v (suc x) xs (omega (arith, h, r.0)) r.1)
   where
     apart_from : (v x : ℕ) → v < x → eqb v x ≡ false
     apart_from v x h = grind (arith, nat_tests)
+
+pub rises-distinct : (a : ℕ) (xs : List ℕ) → Rises a xs → IsDistinct eqb xs
+unfolding IsDistinct
+rises-distinct a [] r = tt
+rises-distinct a (x ∷ xs) r = (apart x xs (not-above x (suc x) xs (omega arith) r.1), rises-distinct (suc x) xs r.1)
 
 no_members : (xs : List ℕ) → filter (λ v. is_in v []) xs ≡ []
 no_members [] = refl
@@ -210,7 +216,7 @@ filter-members test a (suc n) m (w ∷ ws) e r h =
         → filter (λ v. is_in v (w ∷ ws)) (cond b (a ∷ filter test (range_with_len (a + 1) n)) (filter test (range_with_len (a + 1) n))) ≡ w ∷ ws
     there true l k =
         ap (λ x. cond x (a ∷ filter (λ v. is_in v (w ∷ ws)) (filter test (range_with_len (a + 1) n))) (filter (λ v. is_in v (w ∷ ws)) (filter test (range_with_len (a + 1) n))))
-        (not_above a (suc a) (w ∷ ws) (omega arith) (omega (arith, l), r.1))
+        (not-above a (suc a) (w ∷ ws) (omega arith) (omega (arith, l), r.1))
         ∙ k (omega (arith, l), r.1) h
     there false l k = k (omega (arith, l), r.1) h
 

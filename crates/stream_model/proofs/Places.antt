@@ -224,9 +224,9 @@ term-fit p es first t h k e = all_fit p es t t.factors (term-placed p es t h k e
 
 -- ---- the levels of the result
 
-kept_sizes_map : (size : ℕ → ℕ) (test : ℕ → Bool) (vs : List ℕ) → kept_sizes (map (λ v. (size v, test v)) vs) ≡ map size (filter test vs)
-kept_sizes_map size test [] = refl
-kept_sizes_map size test (v ∷ vs) = by_case (test v) (kept_sizes_map size test vs)
+pub kept-sizes-map : (size : ℕ → ℕ) (test : ℕ → Bool) (vs : List ℕ) → kept_sizes (map (λ v. (size v, test v)) vs) ≡ map size (filter test vs)
+kept-sizes-map size test [] = refl
+kept-sizes-map size test (v ∷ vs) = by_case (test v) (kept-sizes-map size test vs)
   where
     by_case : (b : Bool) → kept_sizes (map (λ v. (size v, test v)) vs) ≡ map size (filter test vs)
         → cond b (size v ∷ kept_sizes (map (λ v. (size v, test v)) vs)) (kept_sizes (map (λ v. (size v, test v)) vs)) ≡ map size (cond b (v ∷ filter test vs) (filter test vs))
@@ -282,6 +282,6 @@ pub term-sizes : (p : Program) (es : List Entries) (first : Bool) (t : Term) →
 term-sizes p es first t h k =
     let kept = term-left p t h k in
     ap kept_sizes (kept-none (free_count (loop_list p t)) (loop_list p t) (omega arith))
-    ∙ kept_sizes_map (slice_index p.var_sizes) (λ v. is_in v p.left) (loops_of p t)
+    ∙ kept-sizes-map (slice_index p.var_sizes) (λ v. is_in v p.left) (loops_of p t)
     ∙ ap (map (slice_index p.var_sizes)) kept.loops
     ∙ kept.sizes
