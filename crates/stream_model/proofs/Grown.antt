@@ -1,14 +1,15 @@
 -- Trees of prefixes: each level lies beneath the one above it, and what holds of each prefix.
-use Rattle.std.specs.Prelude.{◌≡◌, ◌<◌, ℕ, zero, suc, ◌+◌, Bool, true, false, cond, ◌&&◌, List, [], ◌∷◌, ◌++◌, length, slice_index, ltb, refl}
-use Rattle.std.specs.List.{filter, range_with_len}
+use Rattle.std.specs.Prelude.{◌≡◌, ◌<◌, ℕ, zero, suc, Bool, true, false, ◌&&◌, List, [], ◌∷◌, ◌++◌, length, slice_index, ltb, refl}
 use mathlib.Core.List.{map}
 use Rattle.std.proofs.Common.{arith, sym, ◌∙◌, ap, subst}
+use Rattle.std.proofs.lemmas.Bool.{and_parts}
 use Rattle.std.proofs.lemmas.Bool.Decides.{nat_tests}
 use Rattle.std.proofs.lemmas.List.{length_push}
-use Rattle.sam_model.specs.Lists.{below, within}
+use Rattle.sam_model.specs.Lists.{within}
 use Rattle.stream_tokens.specs.Nest.{Fiber}
-use Rattle.stream_tokens.specs.Shapes.{on_fibers, on_tokens, under, Each, EachToken}
+use Rattle.stream_tokens.specs.Shapes.{on_tokens, under, Each, EachToken}
 use Rattle.stream_tokens.proofs.Algebra.{map-map, on_fibers-under, under-ext, EachToken-under, fibers-grown}
+use Rattle.stream_model.proofs.Lists.{Each-always, Each-map, filter-range}
 use Rattle.stream_model.specs.Grow.{next, longer, paths, path_fibers}
 
 -- ---- one level beneath another
@@ -16,13 +17,9 @@ use Rattle.stream_model.specs.Grow.{next, longer, paths, path_fibers}
 pub path_fibers-suc : (ok : List ℕ → Bool) (sizes : List ℕ) (d : ℕ) → path_fibers ok sizes (suc d) ≡ under (longer ok sizes) (path_fibers ok sizes d)
 path_fibers-suc ok sizes d = fibers-grown {A = List ℕ} {B = List ℕ} d (longer ok sizes) (paths ok sizes d)
 
-each_always : {A : Type 0} (Q : A → Type 0) → ((x : A) → Q x) → (xs : List A) → Each Q xs
-each_always Q h [] = tt
-each_always Q h (x ∷ xs) = (h x, each_always Q h xs)
-
 pub EachToken-always : {A : Type 0} (Q : A → Type 0) → ((x : A) → Q x) → (fs : List (Fiber A)) → EachToken Q fs
 EachToken-always Q h [] = tt
-EachToken-always Q h (f ∷ fs) = (each_always Q h f.0, EachToken-always Q h fs)
+EachToken-always Q h (f ∷ fs) = (Each-always Q h f.0, EachToken-always Q h fs)
 
 pub under-same : {A B : Type 0} (f g : A → List B) → ((x : A) → f x ≡ g x) → (fs : List (Fiber A)) → under f fs ≡ under g fs
 under-same {A = A} f g h fs = under-ext (λ (x : A). Unit {0}) f g (λ x e. h x) fs (EachToken-always (λ (x : A). Unit {0}) (λ x. tt) fs)
@@ -43,22 +40,8 @@ pub record InTree (ok : List ℕ → Bool) (sizes : List ℕ) (d : ℕ) (p : Lis
   pub passes : ok p ≡ true
   pub in_range : within sizes p ≡ true
 
--- what passes a test over a range
-pub filter-range : (test : ℕ → Bool) (a n m : ℕ) → a + n ≡ m → Each (λ c. (test c ≡ true) × (c < m)) (filter test (range_with_len a n))
-filter-range test a zero m e = tt
-filter-range test a (suc n) m e = by_case (test a) refl (filter-range test (a + 1) n m (omega arith))
-  where
-    by_case : (b : Bool) → test a ≡ b → Each (λ c. (test c ≡ true) × (c < m)) (filter test (range_with_len (a + 1) n))
-        → Each (λ c. (test c ≡ true) × (c < m)) (cond b (a ∷ filter test (range_with_len (a + 1) n)) (filter test (range_with_len (a + 1) n)))
-    by_case true h r = ((h, omega arith), r)
-    by_case false h r = r
-
 pub each-next : (ok : List ℕ → Bool) (sizes p : List ℕ) → Each (λ c. (ok (p ++ c ∷ []) ≡ true) × (c < slice_index sizes (length p))) (next ok sizes p)
 each-next ok sizes p = filter-range (λ c. ok (p ++ c ∷ [])) 0 (slice_index sizes (length p)) (slice_index sizes (length p)) (omega arith)
-
-pub Each-map : {A B : Type 0} (Q : B → Type 0) (f : A → B) (P : A → Type 0) → ((x : A) → P x → Q (f x)) → (xs : List A) → Each P xs → Each Q (map f xs)
-Each-map Q f P h [] e = tt
-Each-map Q f P h (x ∷ xs) e = (h x e.0, Each-map Q f P h xs e.1)
 
 small_head : (c s : ℕ) (b : Bool) → c < s → b ≡ true → (ltb c s && b) ≡ true
 small_head c s b h e = grind (arith, nat_tests)
@@ -66,21 +49,13 @@ small_head c s b h e = grind (arith, nat_tests)
 no_item : (n c : ℕ) → c < slice_index [] n → false ≡ true
 no_item n c h = absurd (omega (arith, h))
 
-left_true : (a b : Bool) → (a && b) ≡ true → a ≡ true
-left_true true b h = refl
-left_true false b h = h
-
-right_true : (a b : Bool) → (a && b) ≡ true → b ≡ true
-right_true true b h = h
-right_true false b h = absurd (cc)
-
 pub within-longer : (sizes p : List ℕ) (c : ℕ) → within sizes p ≡ true → c < slice_index sizes (length p) → within sizes (p ++ c ∷ []) ≡ true
 within-longer [] [] c h e = no_item 0 c e
 within-longer [] (x ∷ p) c h e = h
 within-longer (s ∷ sizes) [] c h e = small_head c s true e refl
 within-longer (s ∷ sizes) (x ∷ p) c h e =
-    let r = within-longer sizes p c (right_true (ltb x s) (within sizes p) h) e in
-    rw (left_true (ltb x s) (within sizes p) h) r
+    let r = within-longer sizes p c (and_parts (ltb x s) (within sizes p) h).1 e in
+    rw (and_parts (ltb x s) (within sizes p) h).0 r
 
 pub longer-InTree : (ok : List ℕ → Bool) (sizes : List ℕ) (d : ℕ) (p : List ℕ) → InTree ok sizes d p → Each (InTree ok sizes (suc d)) (longer ok sizes p)
 longer-InTree ok sizes d p h =

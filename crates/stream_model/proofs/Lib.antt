@@ -1,5 +1,26 @@
 mod Spaced
 mod Rows
 mod Worked
+pub mod Lists
 pub mod Grown
 pub mod Streams
+pub mod Products
+pub mod Masks
+pub mod Stored
+pub mod Prefixes
+pub mod Sums
+pub mod TermLaw
+pub mod Reduced
+pub mod Pruned
+pub mod Orders
+pub mod Moduli
+pub mod Places
+pub mod Denoted
+pub mod Bridges
+pub mod Scans
+pub mod Flat
+pub mod Sides
+pub mod Results
+pub mod Numbers
+pub mod Fills
+pub mod Depths

@@ -1,6 +1,6 @@
 -- The trees of one term: its product trees, and these without loops that are reduced and without what has no value.
 use Rattle.std.specs.Prelude.{ℕ, zero, suc, ◌+◌, ◌%◌, ◌^◌, Bool, true, false, cond, ◌&&◌, ◌||◌, not, List, [], ◌∷◌, ◌++◌, length, drop, get_or, eqb, ltb, leb, Some, None, is_some}
-use Rattle.std.specs.List.{list_any}
+use Rattle.std.specs.List.{list_any, list_all}
 use mathlib.Core.List.{map}
 use Rattle.stream_tokens.specs.Nest.{Leaf}
 use Rattle.sam_model.specs.Lists.{tuples}
@@ -38,6 +38,10 @@ in_product t level mask p = grows t.accesses (asked_at t.accesses level mask) []
 -- all accesses are asked at every level
 abbrev pub in_whole : TermData → List ℕ → Bool
 in_whole t p = grows t.accesses (λ _. everyone t.accesses) [] p
+
+-- the coordinates of every access are stored at u
+abbrev pub all_stored : TermData → List ℕ → Bool
+all_stored t u = list_all (λ a. is_stored a.tensor (restricted a u)) t.accesses
 
 -- ---- reduced trees
 
