@@ -1,5 +1,5 @@
 -- What passes over the channels of the product of two stored vectors.
-use Rattle.std.specs.Prelude.{◌≡◌, ◌<◌, ◌≤◌, ℕ, zero, suc, ◌+◌, ◌*◌, ◌%◌, ◌^◌, Bool, true, false, ◌&&◌, List, [], ◌∷◌, ◌++◌, Some, None, length, get_or, refl, cond}
+use Rattle.std.specs.Prelude.{◌≡◌, ◌<◌, ℕ, zero, suc, ◌+◌, ◌*◌, ◌%◌, ◌^◌, Bool, true, false, ◌&&◌, List, [], ◌∷◌, ◌++◌, Some, length, get_or, refl, cond}
 use Rattle.std.specs.List.{filter, flat_map, range_with_len}
 use mathlib.Core.List.{map}
 use Rattle.std.proofs.Common.{arith, inl, inr, sym, ◌∙◌, ap, subst}
@@ -7,7 +7,7 @@ use Rattle.stream_tokens.specs.declared.Token.{Token}
 use Rattle.stream_tokens.specs.declared.Token.TheVariants.{Item, Done, Stop}
 use Rattle.stream_tokens.specs.Nest.{Leaf, leaf, Fiber, IsStream}
 use Rattle.stream_tokens.specs.Flat.{flat, written}
-use Rattle.stream_tokens.specs.Shapes.{Positive, Each, on_fibers}
+use Rattle.stream_tokens.specs.Shapes.{Each, on_fibers}
 use Rattle.sam_model.specs.Children.{Ranked}
 use Rattle.levels.specs.Reads.{children_at}
 use Rattle.block_core.specs.Ports.{Streams, AllStreams, first_item, second_leaf}
@@ -15,13 +15,12 @@ use Rattle.block_core.specs.Change.{ItemsBelow, on_item, value_at}
 use Rattle.block_core.specs.Scan.{Children}
 use Rattle.block_core.specs.Arithmetic.{Times}
 use Rattle.block_core.specs.Merge.{Head, meet, side_streams}
-use Rattle.block_core.specs.Kind.{Kind, RootKind, ScanKind, CastKind, IntersectKind, ArrayKind, AluKind, DropValueKind, WriteLevelKind, WriteValueKind}
+use Rattle.block_core.specs.Kind.{RootKind, ScanKind, CastKind, IntersectKind, ArrayKind, AluKind, DropValueKind, WriteLevelKind, WriteValueKind}
 use Rattle.block_core.specs.DropValue.{has_value}
 use Rattle.block_core.proofs.Given.{Gives, gives, scan-over, cast-gives, intersect-gives, array-gives, alu-over, dropvalue-over, writelevel-gives, writevalue-gives}
-use Rattle.graph.specs.Meaning.{stored_at, meaning}
-use Rattle.graph.specs.Wiring.{WellFormed}
+use Rattle.graph.specs.Meaning.{stored_at}
 use Rattle.sam_cmd.specs.ProductGraph.{product_graph}
-use Rattle.sam_cmd.proofs.ProductStreams.{fiber, head, heads, side-is, ascends-range, pair, meet-ranges}
+use Rattle.sam_cmd.proofs.ProductStreams.{fiber, heads, side-is, ascends-range, pair, meet-ranges}
 use Rattle.graph.proofs.Carried.{Carried}
 
 -- the stream of one reference, which is the root's
@@ -133,13 +132,13 @@ module _ (n : ℕ) (P Q : ℕ → Bool) (f g : ℕ → ℕ) where
       let lefts : List (Fiber Head) = (heads f xs, 1) ∷ [] in
       let rights : List (Fiber Head) = (heads g ys, 1) ∷ [] in
       let ins : side_streams 1 lefts ++ side_streams 1 rights ≡ fiber xs ∷ fiber (map f xs) ∷ fiber ys ∷ fiber (map g ys) ∷ [] =
-          ap (λ (ss : Streams). ss ++ side_streams 1 rights) (side-is f xs) ∙ ap (λ (ss : Streams). fiber xs ∷ fiber (map f xs) ∷ ss) (side-is g ys) in
+      ap (λ (ss : Streams). ss ++ side_streams 1 rights) (side-is f xs) ∙ ap (λ (ss : Streams). fiber xs ∷ fiber (map f xs) ∷ ss) (side-is g ys) in
       let outs : side_streams 2 ((meet 1 1 (heads f xs) (heads g ys), 1) ∷ []) ≡ fiber zs ∷ fiber (map f zs) ∷ fiber (map g zs) ∷ [] =
-          ap (λ (hs : List Head). side_streams 2 ((hs, 1) ∷ [])) (meet-ranges f g P Q 0 n) ∙ met_streams f g zs in
+      ap (λ (hs : List Head). side_streams 2 ((hs, 1) ∷ [])) (meet-ranges f g P Q 0 n) ∙ met_streams f g zs in
       let all : AllStreams (fiber xs ∷ fiber (map f xs) ∷ fiber ys ∷ fiber (map g ys) ∷ []) =
-          (fiber-stream xs, (fiber-stream (map f xs), (fiber-stream ys, (fiber-stream (map g ys), tt)))) in
+      (fiber-stream xs, (fiber-stream (map f xs), (fiber-stream ys, (fiber-stream (map g ys), tt)))) in
       let one = intersect-gives 1 1 lefts rights ((0, refl), tt) (refl, tt) (wide_heads f xs, tt) (wide_heads g ys, tt)
-          (ascends-range f P 0 n, tt) (ascends-range g Q 0 n, tt) (subst AllStreams (sym ins) all) in
+      (ascends-range f P 0 n, tt) (ascends-range g Q 0 n, tt) (subst AllStreams (sym ins) all) in
       subst (λ (i : Streams). Gives (IntersectKind 1 1) i (fiber zs ∷ fiber (map f zs) ∷ fiber (map g zs) ∷ [])) ins
       (subst (Gives (IntersectKind 1 1) (side_streams 1 lefts ++ side_streams 1 rights)) outs one)
 
@@ -160,12 +159,12 @@ mul-vectors u v ws =
     let fs : List (Fiber ℕ) = (ws, 1) ∷ [] in
     let rest : List Token = Stop 0 ∷ Done ∷ [] in
     let ins : flat (λ c. leaf (Some (u c))) fs ∷ flat (λ c. leaf (Some (v c))) fs ∷ [] ≡ fiber (map u ws) ∷ fiber (map v ws) ∷ [] =
-        ap (λ (s : List Token). s ∷ flat (λ c. leaf (Some (v c))) fs ∷ []) (leaves_are u ws rest)
-        ∙ ap (λ (s : List Token). fiber (map u ws) ∷ s ∷ []) (leaves_are v ws rest) in
+    ap (λ (s : List Token). s ∷ flat (λ c. leaf (Some (v c))) fs ∷ []) (leaves_are u ws rest)
+    ∙ ap (λ (s : List Token). fiber (map u ws) ∷ s ∷ []) (leaves_are v ws rest) in
     let outs : flat (λ c. leaf (Some ((u c * v c) % 2 ^ 64))) fs ∷ [] ≡ fiber (map (λ c. (u c * v c) % 2 ^ 64) ws) ∷ [] =
-        ap (λ (s : List Token). s ∷ []) (leaves_are (λ c. (u c * v c) % 2 ^ 64) ws rest) in
+    ap (λ (s : List Token). s ∷ []) (leaves_are (λ c. (u c * v c) % 2 ^ 64) ws rest) in
     let one = alu-over {A = ℕ} Times (λ c. Some (u c)) (λ c. Some (v c)) fs (inl ((0, refl), tt))
-        (subst AllStreams (sym ins) (fiber-stream (map u ws), (fiber-stream (map v ws), tt))) in
+    (subst AllStreams (sym ins) (fiber-stream (map u ws), (fiber-stream (map v ws), tt))) in
     subst (λ (i : Streams). Gives (AluKind Times) i (fiber (map (λ c. (u c * v c) % 2 ^ 64) ws) ∷ [])) ins
     (subst (Gives (AluKind Times) (flat (λ c. leaf (Some (u c))) fs ∷ flat (λ c. leaf (Some (v c))) fs ∷ [])) outs one)
 
@@ -189,9 +188,9 @@ dropvalue-vector w ws =
     let fs : List (Fiber (ℕ × Leaf)) = (map (valued w) ws, 1) ∷ [] in
     let e = pairs_are w ws (Stop 0 ∷ Done ∷ []) in
     let ins : flat first_item fs ∷ flat second_leaf fs ∷ [] ≡ fiber ws ∷ fiber (map w ws) ∷ [] =
-        ap (λ (s : List Token). s ∷ flat second_leaf fs ∷ []) e.0 ∙ ap (λ (s : List Token). fiber ws ∷ s ∷ []) e.1 in
+    ap (λ (s : List Token). s ∷ flat second_leaf fs ∷ []) e.0 ∙ ap (λ (s : List Token). fiber ws ∷ s ∷ []) e.1 in
     let outs : flat first_item (on_fibers (filter has_value) fs) ∷ flat second_leaf (on_fibers (filter has_value) fs) ∷ [] ≡ fiber ws ∷ fiber (map w ws) ∷ [] =
-        ap (λ (ps : List (ℕ × Leaf)). flat first_item ((ps, 1) ∷ []) ∷ flat second_leaf ((ps, 1) ∷ []) ∷ []) (all_kept w ws) ∙ ins in
+    ap (λ (ps : List (ℕ × Leaf)). flat first_item ((ps, 1) ∷ []) ∷ flat second_leaf ((ps, 1) ∷ []) ∷ []) (all_kept w ws) ∙ ins in
     let one = dropvalue-over fs ((0, refl), tt) (subst AllStreams (sym ins) (fiber-stream ws, (fiber-stream (map w ws), tt))) in
     subst (λ (i : Streams). Gives DropValueKind i (fiber ws ∷ fiber (map w ws) ∷ [])) ins
     (subst (Gives DropValueKind (flat first_item fs ∷ flat second_leaf fs ∷ [])) outs one)

@@ -2,17 +2,15 @@
 use Rattle.std.specs.Prelude.{◌≡◌, ◌<◌, ℕ, zero, suc, List, [], ◌∷◌, length, replicate, Option, Some, None, Result, Ok, Err, IfOk, refl}
 use mathlib.Core.List.{map}
 use Rattle.std.proofs.Common.{sym, subst, ap, ◌∙◌, arith}
-use Rattle.stream_tokens.specs.declared.Token.{Token}
-use Rattle.stream_tokens.specs.Nest.{Leaf}
 use Rattle.stream_tokens.specs.Flat.{put_leaf, fibers_of}
 use Rattle.std.proofs.lemmas.List.{length-map}
 use Rattle.sam_model.specs.declared.tensors.Written.{Written}
 use Rattle.sam_model.specs.Children.{Ranked}
 use Rattle.sam_model.proofs.OneLevel.{one_level}
-use Rattle.block_core.specs.Written.{segs_of, crds_of, vals_of, items_in, ends_from}
+use Rattle.block_core.specs.Written.{segs_of, crds_of, vals_of, items_in}
 use Rattle.block_core.specs.Ports.{Streams}
 use Rattle.block_core.specs.Kind.{Kind}
-use Rattle.graph.specs.WholeStreams.{whole_stream, whole_inputs, Consistent}
+use Rattle.graph.specs.WholeStreams.{whole_stream, Consistent}
 use Rattle.graph.specs.Standing.{StandAt, at_end}
 use Rattle.graph.proofs.Carried.{Carried, carried-whole, carried-consistent}
 use Rattle.graph.specs.declared.graphs.Graph.{Graph}
@@ -25,7 +23,7 @@ use Rattle.sam_cmd.specs.ProductGraph.{product_graph}
 use Rattle.sam_cmd.specs.Vectors.{product_written, shared_coordinates, AreVectors}
 use Rattle.sam_cmd.proofs.ProductWired.{product-wired}
 use Rattle.sam_cmd.proofs.ProductStreams.{fiber}
-use Rattle.sam_cmd.proofs.ProductCarried.{product-carried, product_streams, shared, products}
+use Rattle.sam_cmd.proofs.ProductCarried.{product-carried, product_streams}
 use Rattle.sam_cmd.proofs.VectorStored.{has-vector, stored-here, rank-here, products-are}
 
 -- the numbers of one fiber
@@ -54,7 +52,7 @@ module _ (storages : List Ranked) (a b n : ℕ) (left right : List (List ℕ × 
   product-listed =
       let streams = product_streams storages a b n (stored-here n left) (stored-here n right) (rank-here n left) (rank-here n right) in
       let at : (c : ℕ) (i : c < 15) → whole_stream storages (product_graph a b) c ≡ streams c =
-          λ c i. sym (carried-whole storages (product_graph a b) streams (product-wired a b) carried c i) in
+      λ c i. sym (carried-whole storages (product_graph a b) streams (product-wired a b) carried c i) in
       rw (at 11 (omega arith), at 12 (omega arith)) (listed _ _ ∙ ap (one_level (shared_coordinates n left right)) (products-are storages a b n left right are))
 
 -- where no channel has a limit, a run that ends stuck is finished

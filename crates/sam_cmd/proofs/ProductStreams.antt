@@ -1,13 +1,12 @@
 -- The whole streams of the graph of the product of two vectors, whose coordinates are those of a range that pass a test.
-use Rattle.std.specs.Prelude.{◌≡◌, ◌<◌, ℕ, zero, suc, ◌+◌, ◌*◌, ◌%◌, ◌^◌, Bool, true, false, ◌&&◌, List, [], ◌∷◌, ◌++◌, Some, None, length, get_or, refl, cond, eqb}
+use Rattle.std.specs.Prelude.{◌≡◌, ◌<◌, ℕ, zero, suc, ◌+◌, Bool, true, false, ◌&&◌, List, [], ◌∷◌, Some, None, refl, cond, eqb}
 use Rattle.std.specs.List.{filter, range_with_len}
 use mathlib.Core.List.{map}
-use Rattle.std.proofs.Common.{arith, sym, ◌∙◌, ap, subst}
+use Rattle.std.proofs.Common.{arith, ◌∙◌, ap}
 use Rattle.std.proofs.lemmas.Bool.Decides.{nat_tests}
 use Rattle.stream_tokens.specs.declared.Token.{Token}
 use Rattle.stream_tokens.specs.declared.Token.TheVariants.{Item, Done, Stop}
-use Rattle.stream_tokens.specs.Nest.{Leaf, leaf, Fiber, IsStream}
-use Rattle.stream_tokens.specs.Flat.{flat, written}
+use Rattle.stream_tokens.specs.Flat.{written}
 use Rattle.block_core.specs.Merge.{Head, Above, Ascends, meet, meet_one, look, head_token, side_streams}
 
 -- the stream of one fiber
@@ -33,9 +32,9 @@ map_same (x ∷ xs) = ap (λ (y : List ℕ). x ∷ y) (map_same xs)
 pub side-is : (f : ℕ → ℕ) (xs : List ℕ) → side_streams 1 ((heads f xs, 1) ∷ []) ≡ fiber xs ∷ fiber (map f xs) ∷ []
 side-is f xs =
     let a : written (head_token 0) (heads f xs) (Stop 0 ∷ Done ∷ []) ≡ fiber xs =
-        written_heads (head_token 0) (head f) (λ c. c) (λ c. refl) xs _ ∙ ap fiber (map_same xs) in
+    written_heads (head_token 0) (head f) (λ c. c) (λ c. refl) xs _ ∙ ap fiber (map_same xs) in
     let b : written (head_token 1) (heads f xs) (Stop 0 ∷ Done ∷ []) ≡ fiber (map f xs) =
-        written_heads (head_token 1) (head f) f (λ c. refl) xs _ in
+    written_heads (head_token 1) (head f) f (λ c. refl) xs _ in
     ap (λ (s : List Token). s ∷ written (head_token 1) (heads f xs) (Stop 0 ∷ Done ∷ []) ∷ []) a ∙ ap (λ (s : List Token). fiber xs ∷ s ∷ []) b
 
 -- ---- coordinates of a range

@@ -1,5 +1,5 @@
 -- A stored vector: its one fiber has the stored coordinates with their ranks, and its values stand at these ranks.
-use Rattle.std.proofs.Common.{◌≡◌, ℕ, zero, suc, ◌+◌, ◌*◌, ◌%◌, ◌^◌, ◌<◌, ◌≤◌, Bool, true, false, cond, ◌&&◌, List, [], ◌∷◌, length, refl, ap, subst, ◌∙◌, sym, arith, eqb, ltb}
+use Rattle.std.proofs.Common.{◌≡◌, ℕ, zero, suc, ◌+◌, ◌<◌, ◌≤◌, Bool, true, false, cond, ◌&&◌, List, [], ◌∷◌, length, refl, ap, ◌∙◌, arith, eqb, ltb}
 use Rattle.std.specs.Prelude.{get_or}
 use Rattle.std.specs.List.{filter, flat_map, range_with_len}
 use Rattle.std.proofs.lemmas.Bool.Decides.{nat_tests}
@@ -7,11 +7,10 @@ use Rattle.std.proofs.lemmas.Bool.{and_parts}
 use Rattle.std.proofs.lemmas.List.{length-map}
 use mathlib.Core.List.{map}
 use Rattle.stream_tokens.specs.Shapes.{Each}
-use Rattle.sam_model.specs.Lists.{below, smaller}
+use Rattle.sam_model.specs.Lists.{smaller}
 use Rattle.sam_model.specs.Tensors.{is_stored, rank_of, value_at}
 use Rattle.sam_model.specs.Children.{Ranked, ranked}
 use Rattle.block_core.specs.Change.{value_at as value_of_rank}
-use Rattle.graph.specs.Meaning.{stored_at}
 use Rattle.sam_cmd.specs.Vectors.{one, vector, shared_coordinates, product_at, AreVectors}
 use Rattle.sam_cmd.proofs.ProductCarried.{HasVector, products}
 

@@ -13,7 +13,7 @@ use Rattle.sam_model.specs.declared.program.Program.{Program as ProgramType}
 use Rattle.sam_model.specs.Accepted.{accepted}
 use Rattle.sam_model.specs.Lists.{within}
 use Rattle.sam_model.specs.Tensors.{entry_list, stored_as}
-use Rattle.sam_model.specs.Denote.{stored_of, tensor_at}
+use Rattle.sam_model.specs.Denote.{stored_of}
 use Rattle.sam_model.specs.Children.{Ranked, ranked}
 use Rattle.tns_io.specs.Entries.{tns_entries}
 use Rattle.sam_cmd.specs.VectorProducts.{vector_product}

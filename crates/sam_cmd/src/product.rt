@@ -44,7 +44,12 @@ fn product(
 {
     let graph = product_graph(alloc, left, right)?;
     let blocks = assemble(alloc, &graph, storages)?;
-    let mut machine = Machine::new(alloc, &graph, blocks, &unbounded(alloc, graph.channels.len())?)?;
+    let mut machine = Machine::new(
+        alloc,
+        &graph,
+        blocks,
+        &unbounded(alloc, graph.channels.len())?,
+    )?;
     match machine.finish(&mut NoTap)? {
         Ending::Finished => gather(alloc, &graph, machine.blocks(), 1),
         // Without capacities no run stalls.

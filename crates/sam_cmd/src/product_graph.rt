@@ -36,9 +36,30 @@ fn nodes(alloc: Global, left: u32, right: u32) -> Result<Items<Block>, AllocErro
 {
     let mut blocks = Items::new(alloc);
     blocks.push(node(alloc, Kind::Root, &[], &[0])?)?;
-    blocks.push(node(alloc, Kind::Scan { tensor: left, level: 1 }, &[13], &[1, 2])?)?;
-    blocks.push(node(alloc, Kind::Scan { tensor: right, level: 1 }, &[14], &[3, 4])?)?;
-    blocks.push(node(alloc, Kind::Intersect { left: 1, right: 1 }, &[1, 2, 3, 4], &[5, 6, 7])?)?;
+    blocks.push(node(
+        alloc,
+        Kind::Scan {
+            tensor: left,
+            level: 1,
+        },
+        &[13],
+        &[1, 2],
+    )?)?;
+    blocks.push(node(
+        alloc,
+        Kind::Scan {
+            tensor: right,
+            level: 1,
+        },
+        &[14],
+        &[3, 4],
+    )?)?;
+    blocks.push(node(
+        alloc,
+        Kind::Intersect { left: 1, right: 1 },
+        &[1, 2, 3, 4],
+        &[5, 6, 7],
+    )?)?;
     blocks.push(node(alloc, Kind::Array { tensor: left }, &[6], &[8])?)?;
     blocks.push(node(alloc, Kind::Array { tensor: right }, &[7], &[9])?)?;
     blocks.push(node(alloc, Kind::Mul, &[8, 9], &[10])?)?;
@@ -53,10 +74,27 @@ fn links(alloc: Global) -> Result<Items<Channel>, AllocError>
     ensures { IfOk result (λ channels. channels ≡ links_of) }
 {
     let root = Attr::Literal(0);
-    let left = Tree::Product { term: 0, level: 1, mask: 1 };
-    let right = Tree::Product { term: 0, level: 1, mask: 2 };
-    let shared = Tree::Product { term: 0, level: 1, mask: 3 };
-    let kept = Tree::Reduced { term: 0, gone: 0, prune: 1, depth: 1 };
+    let left = Tree::Product {
+        term: 0,
+        level: 1,
+        mask: 1,
+    };
+    let right = Tree::Product {
+        term: 0,
+        level: 1,
+        mask: 2,
+    };
+    let shared = Tree::Product {
+        term: 0,
+        level: 1,
+        mask: 3,
+    };
+    let kept = Tree::Reduced {
+        term: 0,
+        gone: 0,
+        prune: 1,
+        depth: 1,
+    };
     let channels = [
         link((0, 0), (10, 0), Tree::Root, root),
         link((1, 0), (3, 0), left, Attr::Coordinate),

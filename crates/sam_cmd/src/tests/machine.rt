@@ -77,7 +77,13 @@ fn a_product_is_run(rt: HostRuntime) -> Result<(), Fail> {
     }
     // The intersecter comes first: its left coordinates aren't there yet.
     let mut run = machine(alloc, &storages, None)?;
-    assert_eq!(rt; run.step(3, &mut NoTap)?, Stepped::Blocked { channel: 1, full: false });
+    assert_eq!(rt;
+        run.step(3, &mut NoTap)?,
+        Stepped::Blocked {
+            channel: 1,
+            full: false
+        }
+    );
     assert_eq!(rt; run.moves(), 0);
     assert_eq!(rt; run.step(0, &mut NoTap)?, Stepped::Moved);
     let mut tap = KeepAll::new(alloc, 15)?;

@@ -1,8 +1,7 @@
-use Rattle.std.proofs.Common.{◌≡◌, ◌∙◌, sym, ap, subst, Ok}
+use Rattle.std.proofs.Common.{sym, ap, subst, Ok}
 use Rattle.graph.specs.Wiring.{WellFormed}
 use Rattle.graph.specs.WholeStreams.{Consistent}
 use Rattle.plays.specs.Net.{start}
-use Rattle.sam_cmd.specs.ProductGraph.{product_graph}
 use Rattle.sam_cmd.proofs.ProductWired.{product-wired}
 use Rattle.sam_cmd.proofs.ProductRun.{product-consistent, never-stalls, gathered-product}
 use Rattle.sam_cmd.proofs.product.product.Goals as goal
