@@ -9,8 +9,8 @@ use Rattle.sam_model.specs.Children.{Ranked}
 use Rattle.graph.specs.declared.graphs.Kind.TheVariants.{Root, Scan, Cast, Drain, Intersect, Union, Array, Mul, Fill, WriteLevel, WriteValue}
 use Rattle.graph.specs.declared.graphs.Channel.{Channel}
 use Rattle.graph.specs.declared.graphs.Graph.{Graph}
-use Rattle.any_block.specs.Assembly.{KindInRange, InRange, payloads_of, FewPayloads}
-use Rattle.any_block.specs.Gathering.{first_block, writes_level, writes_values, level_stream, value_stream, written_listing}
+use Rattle.graph.specs.Assembly.{KindInRange, InRange, payloads_of, FewPayloads}
+use Rattle.graph.specs.Writers.{first_block, writes_level, writes_values, level_stream, value_stream, written_listing}
 
 -- 5 at coordinate 1, and 7 at 3
 vectors : List Ranked

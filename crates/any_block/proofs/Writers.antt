@@ -22,7 +22,7 @@ use Rattle.graph.specs.Meaning.{meaning}
 use Rattle.graph.specs.Wiring.{no_block, block}
 use Rattle.graph.specs.WholeStreams.{whole_inputs}
 use Rattle.graph.specs.Standing.{StandAt, at_end}
-use Rattle.any_block.specs.Gathering.{writes_level, writes_values, first_block, level_stream, value_stream, written_listing}
+use Rattle.graph.specs.Writers.{writes_level, writes_values, first_block, level_stream, value_stream, written_listing}
 
 is_level_writer : (d : ℕ) (k : BlockKind) → writes_level d k ≡ true → k ≡ kind.WriteLevel d
 is_level_writer d (kind.WriteLevel level) e = ap kind.WriteLevel (eqb-true level d e)

@@ -8,7 +8,7 @@ ghost use Rattle.graph.specs.Wiring.{block};
 ghost use Rattle.graph.specs.WholeStreams.{Consistent};
 ghost use Rattle.graph.specs.Standing.{StandAt, at_start};
 ghost use Rattle.any_block.specs.declared.blocks.AnyBlock.{AnyBlock};
-ghost use Rattle.any_block.specs.Assembly.{KindInRange, InRange, payloads_of, FewPayloads};
+ghost use Rattle.graph.specs.Assembly.{KindInRange, InRange, payloads_of, FewPayloads};
 
 use crate::blocks::AnyBlock;
 use alu_array::{Alu, Array, Constant, Op, Root};

@@ -6,7 +6,7 @@ ghost use Rattle.block_core.specs.Ports.{Streams, port};
 ghost use Rattle.block_core.specs.Kind.{WriteLevelKind, WriteValueKind, moves};
 ghost use Rattle.block_core.specs.Written.{segs_of, crds_of, vals_of};
 ghost use Rattle.graph.specs.Standing.{StandAt, at_end};
-ghost use Rattle.any_block.specs.Gathering.{first_block, writes_level, writes_values, level_stream, value_stream, written_listing};
+ghost use Rattle.graph.specs.Writers.{first_block, writes_level, writes_values, level_stream, value_stream, written_listing};
 
 use crate::blocks::AnyBlock;
 use block_core::BlockStep;

@@ -3,6 +3,7 @@ pub mod Streams
 mod Formed
 pub mod ByTest
 pub mod Carried
+pub mod Arity
 mod Placing
 mod Placed
 mod Vectors

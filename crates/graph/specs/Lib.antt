@@ -6,3 +6,5 @@ pub mod Laws
 pub mod Order
 pub mod Joined
 pub mod Placing
+pub mod Assembly
+pub mod Writers

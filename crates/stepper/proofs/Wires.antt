@@ -8,65 +8,19 @@ use Rattle.stream_tokens.specs.declared.Token.{Token}
 use Rattle.sam_model.specs.Children.{Ranked}
 use Rattle.block_core.specs.Move.{Move, Taking, Putting, takes, puts}
 use Rattle.block_core.specs.Ports.{port}
-use Rattle.block_core.specs.Kind.{moves, ins_of, outs_of}
+use Rattle.block_core.specs.Kind.{moves}
 use Rattle.block_core.proofs.All.{all-pass}
 use Rattle.block_core.proofs.Arity.{take-in-range, put-in-range}
 use Rattle.graph.specs.declared.graphs.Graph.{Graph}
 use Rattle.graph.specs.declared.graphs.Block.{Block}
-use Rattle.graph.specs.declared.graphs.Kind.{Kind as BlockKind}
-use Rattle.graph.specs.declared.graphs.Kind.TheVariants.{Root, Scan, Repeat, Cast, Drain, Intersect, Union, Array, Mul, Add, Sub, Const, SumScalar, SumVector, SumMatrix, DropValue, DropFiber, Fill, WriteLevel, WriteValue}
 use Rattle.graph.specs.Meaning.{meaning}
 use Rattle.graph.specs.Wiring.{block, channel, no_block, WellFormed}
 use Rattle.graph.specs.WholeStreams.{whole_stream, whole_inputs, Consistent}
 use Rattle.graph.specs.Standing.{block_moves}
 use Rattle.graph.proofs.Streams.{streams-are-given}
+use Rattle.graph.proofs.Arity.{same-ins, same-outs}
 use Rattle.plays.specs.Net.{Wired}
 use Rattle.stepper.specs.NetOf.{net_of}
-
--- a kind has as many ports whatever the tensors are
-same_ins : (storages : List Ranked) (k : BlockKind) → ins_of (meaning storages k) ≡ ins_of (meaning [] k)
-same_ins storages Root = refl
-same_ins storages (Scan tensor level) = refl
-same_ins storages Repeat = refl
-same_ins storages (Cast outs) = refl
-same_ins storages Drain = refl
-same_ins storages (Intersect left right) = refl
-same_ins storages (Union left right) = refl
-same_ins storages (Array tensor) = refl
-same_ins storages Mul = refl
-same_ins storages Add = refl
-same_ins storages Sub = refl
-same_ins storages (Const value) = refl
-same_ins storages SumScalar = refl
-same_ins storages SumVector = refl
-same_ins storages SumMatrix = refl
-same_ins storages DropValue = refl
-same_ins storages DropFiber = refl
-same_ins storages (Fill payloads) = refl
-same_ins storages (WriteLevel level) = refl
-same_ins storages WriteValue = refl
-
-same_outs : (storages : List Ranked) (k : BlockKind) → outs_of (meaning storages k) ≡ outs_of (meaning [] k)
-same_outs storages Root = refl
-same_outs storages (Scan tensor level) = refl
-same_outs storages Repeat = refl
-same_outs storages (Cast outs) = refl
-same_outs storages Drain = refl
-same_outs storages (Intersect left right) = refl
-same_outs storages (Union left right) = refl
-same_outs storages (Array tensor) = refl
-same_outs storages Mul = refl
-same_outs storages Add = refl
-same_outs storages Sub = refl
-same_outs storages (Const value) = refl
-same_outs storages SumScalar = refl
-same_outs storages SumVector = refl
-same_outs storages SumMatrix = refl
-same_outs storages DropValue = refl
-same_outs storages DropFiber = refl
-same_outs storages (Fill payloads) = refl
-same_outs storages (WriteLevel level) = refl
-same_outs storages WriteValue = refl
 
 -- past the blocks there is no move
 past-none : (storages : List Ranked) (g : Graph) (b : ℕ) → length g.blocks ≤ b → block_moves storages g b ≡ []
@@ -89,14 +43,14 @@ pub take_port : (storages : List Ranked) (g : Graph) (b n p : ℕ) (t : Token) �
 take_port storages g b n p t w k e =
     let l = move_within storages g b n (Taking p t) e in
     let r = take-in-range (meaning storages (block g b).kind) (whole_inputs storages g b) n p t (k b l) e in
-    omega (arith, r, same_ins storages (block g b).kind, w.ins_number b l)
+    omega (arith, r, same-ins storages (block g b).kind, w.ins_number b l)
 
 pub put_port : (storages : List Ranked) (g : Graph) (b n p : ℕ) (t : Token) → WellFormed g → Consistent storages g
     → slice_get (block_moves storages g b) n ≡ Some (Putting p t) → p < length (block g b).outs
 put_port storages g b n p t w k e =
     let l = move_within storages g b n (Putting p t) e in
     let r = put-in-range (meaning storages (block g b).kind) (whole_inputs storages g b) n p t (k b l) e in
-    omega (arith, r, same_outs storages (block g b).kind, w.outs_number b l)
+    omega (arith, r, same-outs storages (block g b).kind, w.outs_number b l)
 
 -- the stream at a port is that of its channel
 port_of : (f : ℕ → List Token) (p : ℕ) (cs : List ℕ) → p < length cs → port p (map f cs) ≡ f (get_or cs p 0)

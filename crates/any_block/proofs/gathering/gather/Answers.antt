@@ -1,6 +1,6 @@
 use Rattle.std.proofs.Common.{◌≡◌, ◌∙◌, arith}
 use Rattle.block_core.specs.Written.{segs_of, crds_of}
-use Rattle.any_block.specs.Gathering.{level_stream}
+use Rattle.graph.specs.Writers.{level_stream}
 use Rattle.any_block.proofs.Writers.{level_more, all_listed}
 use Rattle.any_block.proofs.gathering.gather.Goals as goal
 

@@ -5,7 +5,7 @@ use Rattle.sam_model.specs.Children.{Ranked}
 use Rattle.block_core.specs.Written.{segs_of, crds_of}
 use Rattle.graph.specs.Standing.{StandAt, at_end}
 use Rattle.any_block.specs.contracts.blocks.AnyBlockBlockStep.TheImpl.{ghosts}
-use Rattle.any_block.specs.Gathering.{level_stream}
+use Rattle.graph.specs.Writers.{level_stream}
 use Rattle.any_block.proofs.gathering.gather.Given as goal
 
 abbrev pub invariant-loop-above : goal.invariant-loop-above

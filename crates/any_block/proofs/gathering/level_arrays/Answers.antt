@@ -3,7 +3,7 @@ use Rattle.std.proofs.lemmas.Bool.{ltb-true}
 use Rattle.std.proofs.lemmas.Option.{slice_get_read}
 use Rattle.std.proofs.lemmas.Result.{IfOk-weaker}
 use Rattle.any_block.specs.contracts.blocks.AnyBlockBlockStep.TheImpl.{ghosts}
-use Rattle.any_block.specs.Gathering.{first_block, writes_level}
+use Rattle.graph.specs.Writers.{first_block, writes_level}
 use Rattle.any_block.proofs.Writers.{level_ended}
 use Rattle.any_block.proofs.gathering.level_arrays.Goals as goal
 

@@ -4,7 +4,7 @@ use Rattle.std.specs.List.{position_or_len}
 use Rattle.std.proofs.lemmas.Iterator.{YieldsList-from_slice}
 use Rattle.std.proofs.lemmas.Iterator.Search.{position_from_yields_List}
 use Rattle.graph.specs.declared.graphs.Block.{Block}
-use Rattle.any_block.specs.Gathering.{writes_level}
+use Rattle.graph.specs.Writers.{writes_level}
 use Rattle.any_block.proofs.Writers.{or_length}
 use Rattle.any_block.proofs.gathering.level_writer.Goals as goal
 

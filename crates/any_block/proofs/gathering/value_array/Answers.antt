@@ -3,7 +3,7 @@ use Rattle.std.proofs.lemmas.Bool.{ltb-true}
 use Rattle.std.proofs.lemmas.Option.{slice_get_read}
 use Rattle.std.proofs.lemmas.Result.{IfOk-weaker}
 use Rattle.any_block.specs.contracts.blocks.AnyBlockBlockStep.TheImpl.{ghosts}
-use Rattle.any_block.specs.Gathering.{first_block, writes_values}
+use Rattle.graph.specs.Writers.{first_block, writes_values}
 use Rattle.any_block.proofs.Writers.{values_ended}
 use Rattle.any_block.proofs.gathering.value_array.Goals as goal
 

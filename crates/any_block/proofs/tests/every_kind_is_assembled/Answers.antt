@@ -3,7 +3,7 @@ use mathlib.Core.List.{map}
 use Rattle.graph.specs.declared.graphs.Kind.{Kind}
 use Rattle.graph.specs.declared.graphs.Block.{Block}
 use Rattle.graph.specs.Wiring.{no_block}
-use Rattle.any_block.specs.Assembly.{KindInRange, payloads_of}
+use Rattle.graph.specs.Assembly.{KindInRange, payloads_of}
 use Rattle.any_block.proofs.tests.every_kind_is_assembled.Goals as goal
 
 -- each of these kinds has P
