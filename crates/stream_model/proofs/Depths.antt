@@ -23,9 +23,10 @@ use Rattle.stream_model.proofs.Orders.{Rises, Rises-weaker, Rises-range, rises-d
 
 -- ---- the number of loops
 
-filter_short : (test : ℕ → Bool) (a n : ℕ) → length (filter test (range_with_len a n)) ≤ n
-filter_short test a zero = omega arith
-filter_short test a (suc n) = by_case (test a) (filter_short test (a + 1) n)
+-- no more pass a test than there are
+pub filter-short : (test : ℕ → Bool) (a n : ℕ) → length (filter test (range_with_len a n)) ≤ n
+filter-short test a zero = omega arith
+filter-short test a (suc n) = by_case (test a) (filter-short test (a + 1) n)
   where
     by_case : (b : Bool) → length (filter test (range_with_len (a + 1) n)) ≤ n
         → length (cond b (a ∷ filter test (range_with_len (a + 1) n)) (filter test (range_with_len (a + 1) n))) ≤ suc n
@@ -51,7 +52,7 @@ accepted-few p h =
 pub term-few : (p : Program) (t : Term) → accepted p ≡ true → length (loop_list p t) < 9
 term-few p t h =
     let long : length (loop_list p t) ≡ length (loops_of p t) = length-map (loops_of p t) (λ v. (slice_index p.var_sizes v, is_in v p.left)) in
-    omega (arith, long, accepted-few p h, filter_short (λ v. list_any (has_var v) t.factors) 0 (length p.var_sizes))
+    omega (arith, long, accepted-few p h, filter-short (λ v. list_any (has_var v) t.factors) 0 (length p.var_sizes))
 
 -- ---- the loops after a reduced one
 
@@ -113,8 +114,9 @@ number_equality = record { refl = same; symm = turned; congr = moved }
     moved : (x y z : ℕ) → eqb x y ≡ true → eqb x z ≡ eqb y z
     moved x y z h = ap (λ (w : ℕ). eqb w z) (eqb-true x y h)
 
-filtered : (test : ℕ → Bool) (q : ℕ) (xs : List ℕ) → is_in q (filter test xs) ≡ (is_in q xs && test q)
-filtered test q xs = is_member-filter number_equality test q (λ x e. ap test (eqb-true q x e)) xs
+-- what is among those that pass
+pub is_in-filter : (test : ℕ → Bool) (q : ℕ) (xs : List ℕ) → is_in q (filter test xs) ≡ (is_in q xs && test q)
+is_in-filter test q xs = is_member-filter number_equality test q (λ x e. ap test (eqb-true q x e)) xs
 
 rises_filter : (test : ℕ → Bool) (a : ℕ) (xs : List ℕ) → Rises a xs → Rises a (filter test xs)
 rises_filter test a [] r = tt
@@ -142,8 +144,8 @@ left_above left ys v r =
 
     member : (q : ℕ) → is_in q (filter (λ w. is_in w left) ys) ≡ true → is_in q (filter (nat_lt v) left) ≡ true
     member q e =
-        let k = and_parts (is_in q ys) (is_in q left) (sym (filtered (λ w. is_in w left) q ys) ∙ e) in
-        filtered (nat_lt v) q left ∙ and_from (is_in q left) (nat_lt v q) k.1 (lt-ltb v q (above q k.0))
+        let k = and_parts (is_in q ys) (is_in q left) (sym (is_in-filter (λ w. is_in w left) q ys) ∙ e) in
+        is_in-filter (nat_lt v) q left ∙ and_from (is_in q left) (nat_lt v q) k.1 (lt-ltb v q (above q k.0))
 
 sixth_of : (a b c d e f : Bool) → (a && (b && (c && (d && (e && f))))) ≡ true → f ≡ true
 sixth_of true true true true true f k = k

@@ -64,7 +64,8 @@ abbrev pub AllBelow : ℕ → List ℕ → Type 0
 AllBelow n [] = Unit {0}
 AllBelow n (f ∷ fs) = (f < n) × AllBelow n fs
 
-turned : (f g : ℕ) → eqb f g ≡ eqb g f
+-- whether two numbers are equal, either way round
+pub turned : (f g : ℕ) → eqb f g ≡ eqb g f
 turned f g = grind (arith, nat_tests)
 
 pub bit-union : (n : ℕ) (m : List Bool) (fs : List ℕ) (g : ℕ) → AllBelow n fs → get_or (union_with n m fs) g false ≡ (get_or m g false || is_in g fs)

@@ -197,8 +197,9 @@ module _ (p : Program) (es : List Entries) (n : ℕ) where
 
 -- ---- a program of one term
 
-only_fits : (p : Program) (t : Term) → accepted p ≡ true → p.terms ≡ t ∷ [] → term_fits p.tensors p.var_sizes p.left t ≡ true
-only_fits p t h k =
+-- its term fits
+pub only-fits : (p : Program) (t : Term) → accepted p ≡ true → p.terms ≡ t ∷ [] → term_fits p.tensors p.var_sizes p.left t ≡ true
+only-fits p t h k =
     (and_parts (term_fits p.tensors p.var_sizes p.left t) true
     (ap (list_all (term_fits p.tensors p.var_sizes p.left)) (sym k) ∙ accepted-terms p h)).0
 
@@ -210,7 +211,7 @@ pub term-paths : (p : Program) (es : List Entries) (t : Term) (f : ℕ) → acce
 term-paths p es t f h e k l m =
     let d : TermData = term_data p es true t in
     let g : ℕ = free_count (loop_list p t) in
-    let same : reduced_sizes d g ≡ result_sizes p = term-sizes p es true t h (only_fits p t h k) in
+    let same : reduced_sizes d g ≡ result_sizes p = term-sizes p es true t h (only-fits p t h k) in
     ap (λ (xs : List ℕ). in_order (path_fibers (in_pruned d g f) xs (length xs))) (sym same)
     ∙ pruned-full d g f l (omega (arith, m, ap (λ (xs : List ℕ). length xs) same))
     ∙ ap (λ (xs : List ℕ). filter (λ x. is_some (value_reduced d g x)) (tuples xs)) same
