@@ -1,0 +1,9 @@
+use Rattle.std.proofs.Common.{◌≡◌, ◌-◌, length}
+use Rattle.custard_lower.specs.Reductions.{emptied, pruned}
+use Rattle.custard_lower.proofs.reductions.Levels.pruned.Given as goal
+
+abbrev pub invariant-loop-f : goal.invariant-loop-f
+invariant-loop-f l = record {
+  pruned : emptied l.term l.gone (l.f - 1) l.self ≡ pruned l.term l.gone l.fn.self;
+  levels : length l.self.coordinates ≡ l.levels;
+}

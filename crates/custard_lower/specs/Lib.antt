@@ -1,0 +1,11 @@
+pub mod Drafts
+pub mod Masks
+pub mod Plans
+pub mod Nests
+pub mod Values
+pub mod Reductions
+pub mod Unions
+pub mod Lowering
+pub mod DraftGraph
+pub mod Lowered
+pub mod Fans

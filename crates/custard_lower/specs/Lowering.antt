@@ -1,0 +1,73 @@
+-- The blocks of a program, in the order in which they are made.
+use Rattle.std.specs.Prelude.{ℕ, suc, true, false, List, [], ◌∷◌, ◌++◌, length, get_or}
+use mathlib.Core.List.{map}
+use Rattle.sam_model.specs.declared.program.Term.{Term}
+use Rattle.sam_model.specs.declared.program.Program.{Program}
+use Rattle.sam_model.specs.Lists.{below}
+use Rattle.stream_model.specs.declared.labels.Tree.{Tree}
+use Rattle.stream_model.specs.declared.labels.Tree.TheVariants.{Reduced, Joined}
+use Rattle.graph.specs.declared.graphs.Kind.TheVariants as kind
+use Rattle.custard_lower.specs.declared.drafts.Made.{Made}
+use Rattle.custard_lower.specs.declared.plans.Plan.{Plan}
+use Rattle.custard_lower.specs.Drafts.{no_label}
+use Rattle.custard_lower.specs.Plans.{plan_of}
+use Rattle.custard_lower.specs.Nests.{nest}
+use Rattle.custard_lower.specs.Values.{valued}
+use Rattle.custard_lower.specs.Reductions.{Levels, reduced, pruned, free_loops}
+use Rattle.custard_lower.specs.Unions.{Part, join}
+
+-- the root, whose output is every factor's reference before the first loop
+abbrev pub root : Made
+root = record { kind = kind.Root; ins = []; labels = no_label ∷ [] }
+
+-- a term's loops, its values, and the sums over its loops that aren't on the left
+abbrev pub summed : ℕ → Plan → List Made → Levels
+summed term t made =
+    let n = nest term t (length t.on_left) made in
+    let v = valued term t n.made n.references in
+    reduced term t.on_left (record { made = v.made; coordinates = n.coordinates; values = v.values })
+
+abbrev pub lowered_term : ℕ → Plan → List Made → Levels
+lowered_term term t made = pruned term (free_loops t.on_left) (summed term t made)
+
+-- ---- the writers
+
+abbrev pub level_writer : List ℕ → ℕ → Made
+level_writer coordinates d = record { kind = kind.WriteLevel (suc d); ins = get_or coordinates d 0 ∷ []; labels = [] }
+
+abbrev pub value_writer : ℕ → Made
+value_writer values = record { kind = kind.WriteValue; ins = values ∷ []; labels = [] }
+
+abbrev pub written : Levels → List Made
+written l = (l.made ++ map (level_writer l.coordinates) (below (length l.coordinates))) ++ value_writer l.values ∷ []
+
+-- ---- all terms
+
+-- the tree of the first level of a term, and of a join
+abbrev pub first_tree : ℕ → Plan → Tree
+first_tree term t = Reduced term (free_loops t.on_left) 1 1
+
+-- what is joined, without its blocks; the tree is that of its first level
+abbrev pub part : Tree → Levels → Part
+part tree l = record { tree = tree; coordinates = l.coordinates; values = l.values }
+
+-- term number n joined to those before it, whose first level has this tree
+abbrev pub joined_term : Program → ℕ → Tree → Levels → Term → Levels
+joined_term p n tree l t =
+    let plan = plan_of p false t in
+    let more = lowered_term n plan l.made in
+    join n t.minus more.made (part tree l) (part (first_tree n plan) more)
+
+-- the terms from number n on, each joined to those before it
+abbrev pub joined_terms : Program → ℕ → Tree → Levels → List Term → Levels
+joined_terms p n tree l [] = l
+joined_terms p n tree l (t ∷ ts) = joined_terms p (suc n) (Joined n 1) (joined_term p n tree l t) ts
+
+abbrev pub draft_of : Program → List Term → List Made
+draft_of p [] = []
+draft_of p (t ∷ ts) =
+    let plan = plan_of p true t in
+    written (joined_terms p 1 (first_tree 0 plan) (lowered_term 0 plan (root ∷ [])) ts)
+
+abbrev pub draft : Program → List Made
+draft p = draft_of p p.terms

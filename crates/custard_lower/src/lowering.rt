@@ -1,0 +1,171 @@
+//! The blocks of a program, in the order in which they are made.
+
+ghost use Rattle.std.specs.Prelude.{◌≡◌, ◌≤◌, ◌++◌, true, length, map, drop, IfOk};
+ghost use Rattle.sam_model.specs.Accepted.{accepted, term_fits};
+ghost use Rattle.custard_lower.specs.Plans.{IsSmall};
+ghost use Rattle.custard_lower.specs.Reductions.{left_loops};
+ghost use Rattle.custard_lower.specs.Lowering.{summed as sums_of, lowered_term as lowered, written as writers_of, first_tree as tree_of, part, joined_term as joined_to, joined_terms as all_joined, draft as draft_of_program};
+
+use crate::drafts::{Draft, Made};
+use crate::nests::Nest;
+use crate::plans::{NumberedPlan, term_plan};
+use crate::reductions::{Levels, free_loops};
+use crate::unions::{Part, join};
+use crate::values::Valued;
+use graph::Kind;
+use sam_base::Items;
+use sam_model::{Program, Term};
+use std::alloc::{AllocError, Global};
+use stream_model::{Attr, Label, Tree};
+
+impl Levels {
+    /// The blocks, and what is joined, without them; the tree is that of its first level.
+    fn apart(self, tree: Tree) -> (Draft, Part)
+        ensures made { result.0 ≡ self.made }
+        ensures part { result.1 ≡ part tree self }
+    {
+        let Levels {
+            made,
+            coordinates,
+            values,
+        } = self;
+        let part = Part {
+            tree,
+            coordinates,
+            values,
+        };
+        (made, part)
+    }
+}
+
+/// The loops of a term, its values, and the sums over its loops that aren't on the left.
+fn summed(t: &NumberedPlan, made: Draft) -> Result<Levels, AllocError>
+    requires { IsSmall t.now.plan.now }
+    ensures summed { IfOk result (λ levels. levels ≡ sums_of t.now.term t.now.plan.now made) }
+    ensures count { IfOk result (λ levels. length levels.coordinates ≡ left_loops t.now.plan.now.on_left) }
+    ensures few { IfOk result (λ levels. length levels.coordinates ≤ 8) }
+{
+    let Nest {
+        made,
+        coordinates,
+        references,
+    } = t.nest(made)?;
+    let Valued { made, values } = t.valued(made, references.as_slice())?;
+    let levels = Levels {
+        made,
+        coordinates,
+        values,
+    };
+    levels.reduced(t.term, t.plan.on_left.as_slice())
+}
+
+/// The same without what has no value.
+fn lowered_term(t: &NumberedPlan, made: Draft) -> Result<Levels, AllocError>
+    requires { IsSmall t.now.plan.now }
+    ensures lowered { IfOk result (λ levels. levels ≡ lowered t.now.term t.now.plan.now made) }
+    ensures count { IfOk result (λ levels. length levels.coordinates ≡ left_loops t.now.plan.now.on_left) }
+    ensures few { IfOk result (λ levels. length levels.coordinates ≤ 8) }
+{
+    let levels = summed(t, made)?;
+    levels.pruned(t.term, free_loops(t.plan.on_left.as_slice()))
+}
+
+#[tactic(auto, using(crate::proofs::Blocks::blocks_more))]
+/// A writer for each level, and one for the values.
+fn written(levels: Levels) -> Result<Draft, AllocError>
+    requires { length levels.coordinates ≤ 8 }
+    ensures { IfOk result (λ made. made ≡ writers_of levels) }
+{
+    let Levels {
+        mut made,
+        coordinates,
+        values,
+    } = levels;
+    for d in 0..coordinates.len() {
+        let kind = Kind::WriteLevel {
+            level: (d + 1) as u8,
+        };
+        made.emit(kind, &[coordinates.get(d)], &[])?;
+    }
+    made.emit(Kind::WriteValue, &[values], &[])?;
+    Ok(made)
+}
+
+/// The tree of the first level of a term.
+fn first_tree(t: &NumberedPlan) -> Tree
+    requires { IsSmall t.now.plan.now }
+    ensures { result ≡ tree_of t.now.term t.now.plan.now }
+{
+    Tree::Reduced {
+        term: t.term,
+        gone: free_loops(t.plan.on_left.as_slice()),
+        prune: 1,
+        depth: 1,
+    }
+}
+
+/// Joins term number n to those before it, whose first level has this tree.
+fn joined_term(
+    p: &Program,
+    n: u8,
+    tree: Tree,
+    levels: Levels,
+    t: &Term,
+) -> Result<Levels, AllocError>
+    requires accepted { accepted p.now ≡ true }
+    requires fits { term_fits p.now.tensors p.now.var_sizes p.now.left t.now ≡ true }
+    requires few { length levels.coordinates ≤ 8 }
+    requires levels { length levels.coordinates ≡ length p.now.result.order }
+    ensures joined { IfOk result (λ more. more ≡ joined_to p.now n tree levels t.now) }
+    ensures count { IfOk result (λ more. length more.coordinates ≡ length levels.coordinates) }
+{
+    let plan = term_plan(levels.made.alloc(), p, false, t)?;
+    let numbered = NumberedPlan {
+        term: n,
+        plan: &plan,
+    };
+    let (made, left) = levels.apart(tree);
+    let (made, right) = lowered_term(&numbered, made)?.apart(first_tree(&numbered));
+    join(n, t.minus, made, &left, &right)
+}
+
+#[tactic(auto, using(crate::proofs::SmallPlans::term_at_fits, crate::proofs::SmallPlans::few_terms, crate::proofs::JoinedTerms::terms_further))]
+/// Joins the terms from the second on, each to those before it; the first one's first level has this tree.
+fn joined_terms(p: &Program, tree: Tree, levels: Levels) -> Result<Levels, AllocError>
+    requires accepted { accepted p.now ≡ true }
+    requires few { length levels.coordinates ≤ 8 }
+    requires levels { length levels.coordinates ≡ length p.now.result.order }
+    ensures joined { IfOk result (λ all. all ≡ all_joined p.now 1 tree levels (drop 1 p.now.terms)) }
+    ensures few { IfOk result (λ all. length all.coordinates ≤ 8) }
+{
+    let mut tree = tree;
+    let mut levels = levels;
+    for n in 1..p.terms.len() {
+        let last = n as u8;
+        levels = joined_term(p, last, tree, levels, p.terms.get(n))?;
+        tree = Tree::Joined { last, depth: 1 };
+    }
+    Ok(levels)
+}
+
+#[tactic(auto, using(crate::proofs::SmallPlans::some_term, crate::proofs::SmallPlans::term_at_fits, crate::proofs::JoinedTerms::drafted))]
+/// The draft of the graph of a program.
+pub(crate) fn draft(alloc: Global, p: &Program) -> Result<Items<Made>, AllocError>
+    requires { accepted p.now ≡ true }
+    ensures { IfOk result (λ made. made ≡ draft_of_program p.now) }
+{
+    let plan = term_plan(alloc, p, true, p.terms.get(0))?;
+    let root = Label {
+        tree: Tree::Root,
+        attr: Attr::Literal(0),
+    };
+    let mut made = Draft::new(alloc);
+    made.emit(Kind::Root, &[], &[root])?;
+    let first = NumberedPlan {
+        term: 0,
+        plan: &plan,
+    };
+    let levels = lowered_term(&first, made)?;
+    let levels = joined_terms(p, first_tree(&first), levels)?;
+    Ok(written(levels)?.into_made())
+}
