@@ -1,7 +1,7 @@
 -- The exit status of a fault, and what is said of it.
 use Rattle.std.specs.Prelude.{ℕ, Bool, List, [], ◌∷◌, ◌++◌, codes, decimal, if◌then◌else◌}
 use Rattle.sam_base.specs.declared.faults.Fault.{Fault}
-use Rattle.sam_base.specs.declared.faults.Fault.TheVariants.{Usage, Missing, ReadFault, Program, Schedule, TooManyBlocks, NoSuchChannel, Tensor, Stalled, WriteFault, OutOfMemory, NotBuilt}
+use Rattle.sam_base.specs.declared.faults.Fault.TheVariants.{Usage, Missing, ReadFault, Program, Schedule, TooManyBlocks, NoSuchChannel, Tensor, Stalled, WriteFault, OutOfMemory}
 use Rattle.sam_base.specs.declared.faults.Waiting.{Waiting}
 use Rattle.sam_base.specs.Kinds.{program_kind, tns_kind}
 
@@ -18,7 +18,6 @@ status_of (Tensor name kind line) = 4
 status_of (Stalled blocks) = 8
 status_of WriteFault = 7
 status_of OutOfMemory = 9
-status_of NotBuilt = 3
 
 -- a line of text
 abbrev pub line_of : List ℕ → List ℕ
@@ -51,4 +50,3 @@ text_of (Tensor name kind line) =
 text_of (Stalled blocks) = stalled_of blocks
 text_of WriteFault = line_of (codes "sam: write fault")
 text_of OutOfMemory = line_of (codes "sam: out of memory")
-text_of NotBuilt = line_of (codes "sam: not built")

@@ -137,8 +137,6 @@ pub enum Fault {
     WriteFault,
     /// There is no memory.
     OutOfMemory,
-    /// The input is right and of a form that isn't served yet.
-    NotBuilt,
 }
 
 /// The exit status of a fault.
@@ -151,7 +149,6 @@ pub fn status(fault: &Fault) -> u8
         Fault::Schedule { .. } => 3,
         Fault::TooManyBlocks(_) => 3,
         Fault::NoSuchChannel(_) => 3,
-        Fault::NotBuilt => 3,
         Fault::Tensor { .. } => 4,
         Fault::Missing(_) => 5,
         Fault::ReadFault(_) => 6,

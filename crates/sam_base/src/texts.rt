@@ -204,6 +204,5 @@ pub fn fault_text(alloc: Global, fault: &Fault) -> Result<Name, AllocError>
         Fault::Stalled(blocks) => stalled_lines(alloc, blocks.as_slice()),
         Fault::WriteFault => Name::from_slice(alloc, b"sam: write fault\n"),
         Fault::OutOfMemory => Name::from_slice(alloc, b"sam: out of memory\n"),
-        Fault::NotBuilt => Name::from_slice(alloc, b"sam: not built\n"),
     }
 }

@@ -2,7 +2,7 @@
 use Rattle.std.proofs.Common.{◌≡◌, ℕ, ◌≤◌, ◌<◌, inl, inr, List, length, refl, sym, subst, arith}
 use Rattle.std.specs.Prelude.{◌⊎◌, Option, Ok, Err}
 use Rattle.sam_base.specs.declared.faults.Fault.{Fault}
-use Rattle.sam_base.specs.declared.faults.Fault.TheVariants.{Usage, Missing, ReadFault, Program, Schedule, TooManyBlocks, NoSuchChannel, Tensor, Stalled, WriteFault, OutOfMemory, NotBuilt}
+use Rattle.sam_base.specs.declared.faults.Fault.TheVariants.{Usage, Missing, ReadFault, Program, Schedule, TooManyBlocks, NoSuchChannel, Tensor, Stalled, WriteFault, OutOfMemory}
 use Rattle.sam_base.specs.declared.faults.TnsKind.TheVariants.{TooManyPositions}
 use Rattle.sam_base.specs.declared.TheConstants.{POSITIONS_MOST}
 use Rattle.sam_base.specs.Causes.{Rose}
@@ -23,7 +23,6 @@ tensor-comes words files t (Missing name) comes fault =
 tensor-comes words files t (ReadFault name) comes fault = (inr (t, fault.0, comes), fault.1)
 tensor-comes words files t (Tensor name kind line) comes fault = ((t, fault.0, comes, fault.1), tt)
 tensor-comes words files t OutOfMemory comes fault = (tt, tt)
-tensor-comes words files t NotBuilt comes fault = absurd fault
 tensor-comes words files t Usage comes fault = absurd fault
 tensor-comes words files t (Program kind line) comes fault = absurd fault
 tensor-comes words files t (Schedule line) comes fault = absurd fault
@@ -49,7 +48,6 @@ module _ (told now : Option Told) (fb fc fn mb mc mn : ℕ) (same : now ≡ told
   tensor-wider t (ReadFault name) fault = (fault.0, rose-wider fb fc fn faults fault.1)
   tensor-wider t (Tensor name kind line) fault = (fault.0, subst (λ m. RefusesTensor m t kind line) same fault.1)
   tensor-wider t OutOfMemory fault = tt
-  tensor-wider t NotBuilt fault = fault
   tensor-wider t Usage fault = fault
   tensor-wider t (Program kind line) fault = fault
   tensor-wider t (Schedule line) fault = fault

@@ -1,8 +1,8 @@
 -- Over a told map no two refusals have their causes at once.
-use Rattle.std.proofs.Common.{◌≡◌, ℕ, ◌<◌, inl, inr, List, [], ◌∷◌, ◌++◌, length, refl, sym, ap, ◌∙◌, subst}
+use Rattle.std.proofs.Common.{◌≡◌, ℕ, ◌<◌, inl, inr, List, [], ◌∷◌, ◌++◌, length, refl, sym, ap, ◌∙◌, subst, arith}
 use Rattle.std.specs.Prelude.{◌⊎◌, Some, None, Result, Err, IsSomeAnd}
 use Rattle.sam_base.specs.declared.faults.Fault.{Fault}
-use Rattle.sam_base.specs.declared.faults.Fault.TheVariants.{Usage, Missing, ReadFault, Program, Schedule, TooManyBlocks, NoSuchChannel, Tensor, Stalled, WriteFault, OutOfMemory, NotBuilt}
+use Rattle.sam_base.specs.declared.faults.Fault.TheVariants.{Usage, Missing, ReadFault, Program, Schedule, TooManyBlocks, NoSuchChannel, Tensor, Stalled, WriteFault, OutOfMemory}
 use Rattle.sam_base.specs.declared.faults.ProgramKind.{ProgramKind}
 use Rattle.sam_base.specs.declared.faults.TnsKind.{TnsKind}
 use Rattle.sam_base.specs.declared.TheConstants.{FILE_MOST}
@@ -17,8 +17,7 @@ use Rattle.program_file.specs.Programs.{reading}
 use Rattle.sam_cmd.specs.declared.command.Command.{Command}
 use Rattle.sam_cmd.specs.declared.command.Command.TheVariants.{Step}
 use Rattle.sam_cmd.specs.Commands.{command_of, file_of}
-use Rattle.sam_cmd.specs.VectorProducts.{vector_product}
-use Rattle.sam_cmd.specs.Answers.{ReadsProgram, ReadsTensor, ReadsTensors, ComesTo, Opens, IsNotBuilt, RefusesProgram, RefusesTensor, Cause, Comes, IsDue}
+use Rattle.sam_cmd.specs.Answers.{ReadsProgram, ReadsTensor, ReadsTensors, ComesTo, Opens, RefusesProgram, RefusesTensor, Cause, Comes, IsDue}
 use Rattle.sam_cmd.proofs.ServedLemmas.{one-text, not-lacking, not-longer, one-program, not-refused, tensor-not-refused}
 
 err-same : {A E : Type 0} (a b : E) → ◌≡◌ {A = Result A E} (Err a) (Err b) → a ≡ b
@@ -156,14 +155,6 @@ module _ (words : List (List ℕ)) (m : Told) where
     program_read = comes.program_read;
   }
 
-  unbuilt-read : IsNotBuilt words (Some m) → HasRead
-  unbuilt-read not_built = record {
-    command = Step not_built.name;
-    program = not_built.program;
-    is_command = not_built.is_command;
-    program_read = not_built.program_read;
-  }
-
   -- then it isn't missing, and isn't refused
   read-not-lacking : (command : Command) → HasRead → command_of words ≡ Some command → bytes_of m (file_of command) ≡ None → ⊥
   read-not-lacking command read is none =
@@ -192,12 +183,6 @@ module _ (words : List (List ℕ)) (m : Told) where
       let same = one-step a.name b.name a.program b.program a.is_command b.is_command a.program_read b.program_read in
       first-faulty m a.before a.after b.before b.after t u a.entries b.entries
       (sym a.place ∙ ap (λ p. p.tensors) same ∙ b.place) a.before_read b.before_read bad worse
-
-  not-unbuilt-too : (t : TensorType) → ComesTo words (Some m) t → IsNotBuilt words (Some m) → ⊥
-  not-unbuilt-too t a b =
-      let same = one-step a.name b.name a.program b.program a.is_command b.is_command a.program_read b.program_read in
-      let clash = sym a.is_product ∙ ap vector_product same ∙ b.no_product in
-      absurd (cc clash)
 
   opens-command : (name : List ℕ) → Opens words (Some m) name → (command : Command) × (command_of words ≡ Some command)
   opens-command name opens =
@@ -244,13 +229,6 @@ module _ (words : List (List ℕ)) (m : Told) where
         | inr tensor ↦ read-not-refused b.0 kind line (tensor-read tensor.0 tensor.2) b.1 b.2
       ]
 
-  missing-or-unbuilt : (name : List ℕ) → Cause words (Some m) (Missing name) → Cause words (Some m) NotBuilt → ⊥
-  missing-or-unbuilt name a b =
-      elim a.0 [
-        | inl program ↦ read-not-lacking program.0 (unbuilt-read b) program.1 (sym (ap (bytes_of m) program.2) ∙ a.1 m refl)
-        | inr tensor ↦ not-unbuilt-too tensor.0 tensor.2 b
-      ]
-
   missing-or-tensor :
       (name file : List ℕ) (kind : TnsKind) (line : ℕ) → Cause words (Some m) (Missing name) → Cause words (Some m) (Tensor file kind line) → ⊥
   missing-or-tensor name file kind line a b =
@@ -288,36 +266,25 @@ module _ (words : List (List ℕ)) (m : Told) where
   one-refusal fb fn mb mn Usage (Missing name) none due comes =
       let is = opens-command name comes.0.0 in absurd (no-command is.0 due is.1)
   one-refusal fb fn mb mn Usage (Program kind line) none due comes = absurd (no-command comes.0.0 due comes.0.1)
-  one-refusal fb fn mb mn Usage NotBuilt none due comes = absurd (no-command (Step comes.0.name) due comes.0.is_command)
   one-refusal fb fn mb mn Usage (Tensor name kind line) none due comes =
       absurd (no-command (Step comes.0.2.name) due comes.0.2.is_command)
   one-refusal fb fn mb mn (Missing name) Usage none due comes =
       let is = opens-command name due.0 in absurd (no-command is.0 comes.0 is.1)
   one-refusal fb fn mb mn (Missing name) (Missing other) none due comes = inl (ap Missing (two-missing other name comes.0 due))
   one-refusal fb fn mb mn (Missing name) (Program kind line) none due comes = absurd (missing-or-program name kind line due comes.0)
-  one-refusal fb fn mb mn (Missing name) NotBuilt none due comes = absurd (missing-or-unbuilt name due comes.0)
   one-refusal fb fn mb mn (Missing name) (Tensor file kind line) none due comes =
       absurd (missing-or-tensor name file kind line due comes.0)
   one-refusal fb fn mb mn (Program kind line) Usage none due comes = absurd (no-command due.0 comes.0 due.1)
   one-refusal fb fn mb mn (Program kind line) (Missing name) none due comes = absurd (missing-or-program name kind line comes.0 due)
   one-refusal fb fn mb mn (Program kind line) (Program other number) none due comes = inl (two-programs other kind number line comes.0 due)
-  one-refusal fb fn mb mn (Program kind line) NotBuilt none due comes =
-      absurd (read-not-refused due.0 kind line (unbuilt-read comes.0) due.1 due.2)
   one-refusal fb fn mb mn (Program kind line) (Tensor name sort number) none due comes =
       absurd (read-not-refused due.0 kind line (tensor-read comes.0.0 comes.0.2) due.1 due.2)
-  one-refusal fb fn mb mn NotBuilt Usage none due comes = absurd (no-command (Step due.name) comes.0 due.is_command)
-  one-refusal fb fn mb mn NotBuilt (Missing name) none due comes = absurd (missing-or-unbuilt name comes.0 due)
-  one-refusal fb fn mb mn NotBuilt (Program kind line) none due comes =
-      absurd (read-not-refused comes.0.0 kind line (unbuilt-read due) comes.0.1 comes.0.2)
-  one-refusal fb fn mb mn NotBuilt NotBuilt none due comes = inl refl
-  one-refusal fb fn mb mn NotBuilt (Tensor name kind line) none due comes = absurd (not-unbuilt-too comes.0.0 comes.0.2 due)
   one-refusal fb fn mb mn (Tensor name kind line) Usage none due comes =
       absurd (no-command (Step due.2.name) comes.0 due.2.is_command)
   one-refusal fb fn mb mn (Tensor name kind line) (Missing other) none due comes =
       absurd (missing-or-tensor other name kind line comes.0 due)
   one-refusal fb fn mb mn (Tensor name kind line) (Program sort number) none due comes =
       absurd (read-not-refused comes.0.0 sort number (tensor-read due.0 due.2) comes.0.1 comes.0.2)
-  one-refusal fb fn mb mn (Tensor name kind line) NotBuilt none due comes = absurd (not-unbuilt-too due.0 due.2 comes.0)
   one-refusal fb fn mb mn (Tensor name kind line) (Tensor other sort number) none due comes =
       inl (two-tensors other name sort kind number line comes.0 due)
   one-refusal fb fn mb mn due OutOfMemory none is comes = inr refl

@@ -3,7 +3,7 @@ use Rattle.std.proofs.Common.{◌≡◌, ℕ, ◌<◌, inl, inr, List, [], ◌�
 use Rattle.std.specs.Prelude.{◌⊎◌, Option, Some, None, Result, Ok, Err, IsSomeAnd}
 use mathlib.Core.List.{map}
 use Rattle.sam_base.specs.declared.faults.Fault.{Fault}
-use Rattle.sam_base.specs.declared.faults.Fault.TheVariants.{Usage, Missing, ReadFault, Program, Schedule, TooManyBlocks, NoSuchChannel, Tensor, Stalled, WriteFault, OutOfMemory, NotBuilt}
+use Rattle.sam_base.specs.declared.faults.Fault.TheVariants.{Usage, Missing, ReadFault, Program, Schedule, TooManyBlocks, NoSuchChannel, Tensor, Stalled, WriteFault, OutOfMemory}
 use Rattle.sam_base.specs.declared.faults.ProgramKind.{ProgramKind}
 use Rattle.sam_base.specs.declared.faults.TnsKind.{TnsKind}
 use Rattle.sam_base.specs.declared.TheConstants.{FILE_MOST}
@@ -19,8 +19,7 @@ use Rattle.program_file.specs.Programs.{reading}
 use Rattle.sam_cmd.specs.declared.command.Command.{Command}
 use Rattle.sam_cmd.specs.declared.command.Command.TheVariants.{Check, Step}
 use Rattle.sam_cmd.specs.Commands.{command_of, file_of}
-use Rattle.sam_cmd.specs.VectorProducts.{vector_product}
-use Rattle.sam_cmd.specs.Answers.{ReadsFile, ReadsProgram, ReadsTensor, ReadsTensors, ComesTo, Opens, IsNotBuilt, RefusesProgram, RefusesTensor, Accepts, Computes, Comes, IsServed, IsDue}
+use Rattle.sam_cmd.specs.Answers.{ReadsFile, ReadsProgram, ReadsTensor, ReadsTensors, ComesTo, Opens, RefusesProgram, RefusesTensor, Accepts, Computes, Comes, IsServed, IsDue}
 
 some-same : {A : Type 0} (a b : A) → Some a ≡ Some b → a ≡ b
 some-same a b e = cc
@@ -144,17 +143,6 @@ module _ (words : List (List ℕ)) (m : Told) where
             not-lacking m tensor.0.file read.1.bytes read.1.file (sym (ap (bytes_of m) tensor.1) ∙ none)
       ]
 
-  not-unbuilt : (command : Command) → command_of words ≡ Some command → IsServed command m → IsNotBuilt words (Some m) → ⊥
-  not-unbuilt (Check name) is served not_built =
-      let clash : Step not_built.name ≡ Check name = some-same _ _ (sym not_built.is_command ∙ is) in absurd (cc clash)
-  not-unbuilt (Step name) is served not_built =
-      let steps : Step not_built.name ≡ Step name = some-same _ _ (sym not_built.is_command ∙ is) in
-      let named : not_built.name ≡ name = cc steps in
-      let reads = subst (λ n. ReadsProgram (Some m) n not_built.program) named not_built.program_read in
-      let same = one-program m name served.program not_built.program served.program_read reads in
-      let clash = sym not_built.no_product ∙ ap vector_product (sym same) ∙ served.is_product in
-      absurd (cc clash)
-
   -- where no count of faults rose, there is no fault but want of memory
   pub served-fault :
       (command : Command) → command_of words ≡ Some command → IsServed command m → (fb fn mb mn : ℕ) (fault : Fault) → ¬ Rose fb fn →
@@ -172,7 +160,6 @@ module _ (words : List (List ℕ)) (m : Told) where
       let read = comes-read command is served comes.0.0 comes.0.2 in
       absurd (tensor-not-refused m comes.0.0 read.0 kind line read.1 comes.0.3)
   served-fault command is served fb fn mb mn OutOfMemory none comes = refl
-  served-fault command is served fb fn mb mn NotBuilt none comes = absurd (not-unbuilt command is served comes.0)
   served-fault command is served fb fn mb mn (Schedule line) none comes = absurd comes.0
   served-fault command is served fb fn mb mn (TooManyBlocks blocks) none comes = absurd comes.0
   served-fault command is served fb fn mb mn (NoSuchChannel channel) none comes = absurd comes.0
@@ -191,10 +178,8 @@ not-due words m text fault answer due =
         computes.is_command,
         record {
           program = computes.program;
-          factors = computes.factors;
           entries = computes.entries;
           program_read = computes.program_read;
-          is_product = computes.is_product;
           tensors_read = computes.tensors_read;
         },
       )
@@ -210,7 +195,6 @@ not-due words m text fault answer due =
     due-comes Usage due = (due, tt)
     due-comes (Missing name) due = (due, omega arith)
     due-comes (Program kind line) due = (due, tt)
-    due-comes NotBuilt due = (due, tt)
     due-comes (Tensor name kind line) due = (due, tt)
     due-comes (ReadFault name) due = absurd due
     due-comes OutOfMemory due = absurd due

@@ -1,5 +1,5 @@
 -- Tensors that are read and stored one after the other.
-use Rattle.std.proofs.Common.{add-one, ◌≡◌, ℕ, zero, suc, ◌+◌, ◌<◌, List, [], ◌∷◌, ◌++◌, length, take, drop, Some, refl, sym, ap, subst, ◌∙◌, arith}
+use Rattle.std.proofs.Common.{add-one, ◌≡◌, ℕ, suc, ◌+◌, List, [], ◌∷◌, ◌++◌, length, take, drop, Some, refl, sym, ap, subst, ◌∙◌, arith}
 use Rattle.std.specs.Prelude.{Option, slice_get}
 use Rattle.std.proofs.Math.Seq.{drop-cons}
 use Rattle.std.proofs.lemmas.List.{take-append-drop, take_more}
@@ -9,11 +9,12 @@ use Rattle.sam_base.specs.declared.faults.Fault.{Fault}
 use Rattle.sam_io.specs.Outside.{Told}
 use Rattle.sam_model.specs.declared.tensors.Tensor.{Tensor}
 use Rattle.sam_model.specs.declared.tensors.Entries.{Entries}
+use Rattle.sam_model.specs.declared.program.Program.{Program}
 use Rattle.sam_model.specs.Tensors.{stored_as}
-use Rattle.sam_model.specs.Denote.{stored_of, tensor_at}
+use Rattle.sam_model.specs.Denote.{stored_of}
 use Rattle.sam_model.specs.Children.{Ranked, ranked}
 use Rattle.sam_cmd.specs.Answers.{FilesSpan, ReadsTensor, ReadsTensors}
-use Rattle.sam_cmd.specs.Steps.{GivesStorage, GivesStorages, TensorFault, TensorsFault}
+use Rattle.sam_cmd.specs.Steps.{GivesStorage, GivesStorages, TensorFault, TensorsFault, AreStored}
 
 -- the rest of a list from an item on
 drop-get : {A : Type 0} (xs : List A) (n : ℕ) (x : A) → slice_get xs n ≡ Some x → drop n xs ≡ x ∷ drop (n + 1) xs
@@ -44,21 +45,6 @@ stored-more [] [] t e each = refl
 stored-more [] (d ∷ es) t e each = absurd (omega (arith, each))
 stored-more (s ∷ ts) [] t e each = absurd (omega (arith, each))
 stored-more (s ∷ ts) (d ∷ es) t e each = ap (λ l. ranked (stored_as s d) ∷ l) (stored-more ts es t e (omega (arith, each)))
-
--- as many are stored as are declared
-pub stored-each : (ts : List Tensor) (es : List Entries) → length es ≡ length ts → length (map ranked (stored_of ts es)) ≡ length ts
-stored-each [] es each = refl
-stored-each (s ∷ ts) [] each = absurd (omega (arith, each))
-stored-each (s ∷ ts) (d ∷ es) each = ap suc (stored-each ts es (omega (arith, each)))
-
--- what is stored at a number
-pub stored-at :
-    (ts : List Tensor) (es : List Entries) (a : ℕ) → length es ≡ length ts → a < length ts →
-    slice_get (map ranked (stored_of ts es)) a ≡ Some (ranked (tensor_at (stored_of ts es) a))
-stored-at [] es a each inside = absurd (omega (arith, inside))
-stored-at (s ∷ ts) [] a each inside = absurd (omega (arith, each))
-stored-at (s ∷ ts) (d ∷ es) zero each inside = refl
-stored-at (s ∷ ts) (d ∷ es) (suc a) each inside = stored-at ts es a (omega (arith, each)) (omega (arith, inside))
 
 -- where a tensor stands
 place-of : (ts : List Tensor) (n : ℕ) (t : Tensor) → slice_get ts n ≡ Some t → ts ≡ take n ts ++ t ∷ drop (n + 1) ts
@@ -102,3 +88,11 @@ module _ (told : Option Told) (ts : List Tensor) (n : ℕ) (t : Tensor) (stored 
     before_read = subst (λ m. ReadsTensors m (take n ts) so_far.entries) (sym same) so_far.reads;
     faulty = faulty;
   }
+
+-- all tensors of a program, as they were read
+pub all-stored :
+    (told : Option Told) (p : Program) (stored : List Ranked) (gives : GivesStorages told p.tensors stored) → AreStored p gives.entries stored
+all-stored told p stored gives = record {
+  each = reads-each told p.tensors gives.entries gives.reads;
+  are_stored = gives.are_stored;
+}

@@ -1,7 +1,7 @@
 -- When each answer of a command comes, and what it leaves on the sinks.
 use Rattle.std.specs.Prelude.{◌≡◌, ℕ, ◌≤◌, ◌<◌, ◌⊎◌, true, List, [], ◌∷◌, ◌++◌, codes, length, Option, Some, None, Result, Ok, Err}
 use Rattle.sam_base.specs.declared.faults.Fault.{Fault}
-use Rattle.sam_base.specs.declared.faults.Fault.TheVariants.{Usage, Missing, ReadFault, Program, Schedule, TooManyBlocks, NoSuchChannel, Tensor, Stalled, WriteFault, OutOfMemory, NotBuilt}
+use Rattle.sam_base.specs.declared.faults.Fault.TheVariants.{Usage, Missing, ReadFault, Program, Schedule, TooManyBlocks, NoSuchChannel, Tensor, Stalled, WriteFault, OutOfMemory}
 use Rattle.sam_base.specs.declared.faults.ProgramKind.{ProgramKind}
 use Rattle.sam_base.specs.declared.faults.ProgramKind.TheVariants as of_program
 use Rattle.sam_base.specs.declared.faults.TnsKind.{TnsKind}
@@ -21,7 +21,6 @@ use Rattle.program_file.specs.Programs.{reading}
 use Rattle.sam_cmd.specs.declared.command.Command.{Command}
 use Rattle.sam_cmd.specs.declared.command.Command.TheVariants.{Check, Step}
 use Rattle.sam_cmd.specs.Commands.{command_of, file_of}
-use Rattle.sam_cmd.specs.VectorProducts.{vector_product}
 
 -- the files during one call
 pub record FilesSpan : Type 0 where
@@ -66,17 +65,15 @@ ReadsTensors told [] (e ∷ es) = ⊥
 ReadsTensors told (t ∷ ts) [] = ⊥
 ReadsTensors told (t ∷ ts) (e ∷ es) = ReadsTensor told t e × ReadsTensors told ts es
 
--- the command comes to a tensor: it is `step` on a product of vectors, and each tensor declared before was read
+-- the command comes to a tensor: it is `step`, and each tensor declared before was read
 pub record ComesTo (words : List (List ℕ)) (told : Option Told) (t : TensorType) : Type 0 where
   pub name : List ℕ
   pub program : ProgramType
-  pub factors : ℕ × ℕ
   pub before : List TensorType
   pub after : List TensorType
   pub entries : List Entries
   pub is_command : command_of words ≡ Some (Step name)
   pub program_read : ReadsProgram told name program
-  pub is_product : vector_product program ≡ Some factors
   pub place : program.tensors ≡ before ++ t ∷ after
   pub before_read : ReadsTensors told before entries
 
@@ -93,15 +90,6 @@ abbrev pub RefusesProgram : Option Told → List ℕ → ProgramKind → ℕ →
 RefusesProgram told name kind line =
     ((bytes : List ℕ) × ReadsFile told name bytes × (reading bytes ≡ Err (record { kind = kind; line = line })))
     ⊎ ((kind ≡ of_program.FileTooLong) × (line ≡ 0) × LongerThan told name FILE_MOST)
-
--- `step` isn't built for the program, which is accepted and no product of two vectors
-pub record IsNotBuilt (words : List (List ℕ)) (told : Option Told) : Type 0 where
-  pub name : List ℕ
-  pub program : ProgramType
-  pub is_command : command_of words ≡ Some (Step name)
-  pub program_read : ReadsProgram told name program
-  pub is_accepted : accepted program ≡ true
-  pub no_product : vector_product program ≡ None
 
 -- a tensor's file is refused, for this reason at this line
 abbrev pub RefusesTensor : Option Told → TensorType → TnsKind → ℕ → Type 0
@@ -122,16 +110,14 @@ pub record Accepts (words : List (List ℕ)) (told : Option Told) (text : List �
   pub is_accepted : accepted program ≡ true
   pub is_text : text ≡ codes "accepted\n"
 
--- `step` of a product of vectors: what the result was made of
+-- `step`: what the result was made of
 pub record Computes (words : List (List ℕ)) (told : Option Told) (text : List ℕ) : Type 0 where
   pub name : List ℕ
   pub program : ProgramType
-  pub factors : ℕ × ℕ
   pub entries : List Entries
   pub is_command : command_of words ≡ Some (Step name)
   pub program_read : ReadsProgram told name program
   pub is_accepted : accepted program ≡ true
-  pub is_product : vector_product program ≡ Some factors
   pub tensors_read : ReadsTensors told program.tensors entries
   pub is_text : text ≡ result_text program entries
 
@@ -142,7 +128,6 @@ Cause words told (Missing name) = Opens words told name × Lacks told name
 Cause words told (ReadFault name) = Opens words told name
 Cause words told (Program kind line) =
     (command : Command) × (command_of words ≡ Some command) × RefusesProgram told (file_of command) kind line
-Cause words told NotBuilt = IsNotBuilt words told
 Cause words told (Tensor name kind line) =
     (t : TensorType) × (name ≡ t.file) × ComesTo words told t × RefusesTensor told t kind line
 Cause words told OutOfMemory = Unit {0}
@@ -196,13 +181,11 @@ pub record Answered (words : List (List ℕ)) (files : FilesSpan) (out err : Sin
   pub comes : Comes words files answer
   pub leaves : Leaves answer out err status
 
--- `step` has all that it opens: a product of vectors, and each tensor that is declared
+-- `step` has all that it opens: a program, and each tensor that is declared
 pub record HasAll (m : Told) (name : List ℕ) : Type 0 where
   pub program : ProgramType
-  pub factors : ℕ × ℕ
   pub entries : List Entries
   pub program_read : ReadsProgram (Some m) name program
-  pub is_product : vector_product program ≡ Some factors
   pub tensors_read : ReadsTensors (Some m) program.tensors entries
 
 -- all files that a command opens are told, and are accepted

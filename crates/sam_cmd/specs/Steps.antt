@@ -16,7 +16,7 @@ use Rattle.sam_model.specs.Tensors.{entry_list, stored_as}
 use Rattle.sam_model.specs.Denote.{stored_of}
 use Rattle.sam_model.specs.Children.{Ranked, ranked}
 use Rattle.tns_io.specs.Entries.{tns_entries}
-use Rattle.sam_cmd.specs.VectorProducts.{vector_product}
+use Rattle.custard_lower.specs.Lowered.{storages_of}
 use Rattle.sam_cmd.specs.Answers.{FilesSpan, ReadsFile, ReadsProgram, ReadsTensor, ReadsTensors, RefusesProgram, RefusesTensor}
 
 -- a file's text, or that it is too long
@@ -75,9 +75,7 @@ pub record TensorsFault (files : FilesSpan) (ts : List TensorType) (fault : Faul
   pub before_read : ReadsTensors files.told before entries
   pub faulty : TensorFault files tensor fault
 
--- the accepted program multiplies these two of its tensors, which are stored from these entries
-pub record IsProductOf (p : ProgramType) (entries : List Entries) (storages : List Ranked) (left right : ℕ) : Type 0 where
-  pub is_accepted : accepted p ≡ true
-  pub is_product : vector_product p ≡ Some (left, right)
+-- all tensors of a program, as they are stored from a list of entries for each
+pub record AreStored (p : ProgramType) (entries : List Entries) (stored : List Ranked) : Type 0 where
   pub each : length entries ≡ length p.tensors
-  pub are_stored : storages ≡ map ranked (stored_of p.tensors entries)
+  pub are_stored : stored ≡ storages_of p entries

@@ -9,12 +9,11 @@ ghost use Rattle.sam_cmd.specs.Answers.{Answered, Complete, Exact};
 
 mod answer;
 mod command;
-mod product;
-mod product_graph;
+mod inputs;
 mod report;
+mod run;
 #[cfg(test)]
 mod tests;
-mod vectors;
 
 use answer::answer;
 use report::{report, say};
@@ -25,8 +24,7 @@ use std::alloc::Global;
 ///
 /// `check FILE` reads a program file, and writes `accepted` and a newline. `step FILE` reads a program file and the files of
 /// all its tensors, and writes the tensor that the statement denotes: the sum of products over all index tuples, modulo
-/// 2^64, at the coordinates of its pattern. Today it serves the product of two compressed vectors; the contract says which
-/// other answers there are and when each comes.
+/// 2^64, at the coordinates of its pattern. The contract says which other answers there are and when each comes.
 pub fn sam_serial<F: Files, O: Sink, E: Sink>(
     alloc: Global,
     words: &[String],

@@ -2,7 +2,7 @@ use Rattle.std.proofs.Common.{◌∙◌, inr, sym, subst}
 use Rattle.sam_cmd.specs.Answers.{ReadsTensors}
 use Rattle.sam_cmd.specs.Steps.{GivesStorages}
 use Rattle.sam_cmd.proofs.AnswerLemmas.{tensor-comes, tensor-wider}
-use Rattle.sam_cmd.proofs.StepLemmas.{product-of-stored}
+use Rattle.sam_cmd.proofs.TensorLists.{all-stored}
 use Rattle.sam_cmd.proofs.answer.step.Goals as goal
 
 pub returns-in-Err-storages : goal.returns-in-Err-storages
@@ -13,13 +13,11 @@ returns-in-Err-storages g c = λ words named.
     (record {
       name = c.args.name.now;
       program = c.in-Ok.program;
-      factors = (c.in-Some.left, c.in-Some.right);
       before = f.before;
       after = f.after;
       entries = f.entries;
       is_command = named;
       program_read = p.ok.reads;
-      is_product = sym c.in-Some.ensures;
       place = sym c.as_slice.ensures ∙ f.place;
       before_read = subst (λ m. ReadsTensors m f.before f.entries) p.same f.before_read;
     })
@@ -28,35 +26,30 @@ returns-in-Err-storages g c = λ words named.
     (g.F.Files.misses c.args.files.now) (g.F.Files.misses c.program.new.files) (g.F.Files.misses c.storages.new.files)
     p.same p.faults p.misses f.tensor c.in-Err-storages.fault f.faulty)
 
-pub product_text-requires : goal.product_text-requires
-product_text-requires g c =
+pub run_text-requires-clause-stored : goal.run_text-requires-clause-stored
+run_text-requires-clause-stored g c =
     let told = g.F.Files.told c.program.new.files in
     let p = c.in-Ok.program in
     let stored = c.in-Ok-storages.storages in
     let gives : GivesStorages told p.tensors stored
     = subst (λ ts. GivesStorages told ts stored) c.as_slice.ensures c.in-Ok-storages.ensures.ok in
-    (gives.entries, rw c.as_slice-2.ensures (product-of-stored p c.in-Some.left c.in-Some.right c.in-Ok.ensures.ok.is_accepted (sym c.in-Some.ensures) told stored gives))
+    (gives.entries, rw c.as_slice-2.ensures (all-stored told p stored gives))
 
-pub returns-in-Ok-product_text : goal.returns-in-Ok-product_text
-returns-in-Ok-product_text g c = λ words named.
+pub returns-in-Ok-run_text : goal.returns-in-Ok-run_text
+returns-in-Ok-run_text g c = λ words named.
     let told = g.F.Files.told c.program.new.files in
     let p = c.in-Ok.program in
     let read = c.in-Ok.ensures.ok in
     let stored = c.in-Ok-storages.storages in
     let gives : GivesStorages told p.tensors stored
     = subst (λ ts. GivesStorages told ts stored) c.as_slice.ensures c.in-Ok-storages.ensures.ok in
-    let same = c.in-Ok.ensures.same in
     inr (record {
       name = c.args.name.now;
       program = p;
-      factors = (c.in-Some.left, c.in-Some.right);
       entries = gives.entries;
       is_command = named;
       program_read = read.reads;
       is_accepted = read.is_accepted;
-      is_product = sym c.in-Some.ensures;
-      tensors_read = subst (λ m. ReadsTensors m p.tensors gives.entries) same gives.reads;
-      is_text =
-          c.in-Ok-product_text.ensures gives.entries
-          (rw c.as_slice-2.ensures (product-of-stored p c.in-Some.left c.in-Some.right read.is_accepted (sym c.in-Some.ensures) told stored gives));
+      tensors_read = subst (λ m. ReadsTensors m p.tensors gives.entries) c.in-Ok.ensures.same gives.reads;
+      is_text = c.in-Ok-run_text.ensures gives.entries (rw c.as_slice-2.ensures (all-stored told p stored gives));
     })

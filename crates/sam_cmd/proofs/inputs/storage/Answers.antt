@@ -1,6 +1,6 @@
 use Rattle.std.proofs.Common.{◌≤◌, subst, ap, Err}
 use Rattle.sam_cmd.proofs.AnswerLemmas.{too-many}
-use Rattle.sam_cmd.proofs.answer.storage.Goals as goal
+use Rattle.sam_cmd.proofs.inputs.storage.Goals as goal
 
 pub returns-in-Err-TooManyPositions-clause-err : goal.returns-in-Err-TooManyPositions-clause-err
 returns-in-Err-TooManyPositions-clause-err g c =

@@ -1,6 +1,6 @@
 use Rattle.std.proofs.Common.{◌≡◌, ◌≤◌, take}
 use Rattle.sam_cmd.specs.Steps.{GivesStorages}
-use Rattle.sam_cmd.proofs.answer.storages.Given as goal
+use Rattle.sam_cmd.proofs.inputs.storages.Given as goal
 
 abbrev pub invariant-loop-tensor : goal.invariant-loop-tensor
 invariant-loop-tensor g l = record {

@@ -4,7 +4,7 @@ use Rattle.sam_base.specs.declared.faults.Fault.TheVariants.{OutOfMemory}
 use Rattle.sam_cmd.specs.Steps.{GivesStorage}
 use Rattle.sam_cmd.proofs.AnswerLemmas.{tensor-wider}
 use Rattle.sam_cmd.proofs.TensorLists.{storages-more, faults-there}
-use Rattle.sam_cmd.proofs.answer.storages.Goals as goal
+use Rattle.sam_cmd.proofs.inputs.storages.Goals as goal
 
 pub returns-in-Err-clause-err : goal.returns-in-Err-clause-err
 returns-in-Err-clause-err g c =
