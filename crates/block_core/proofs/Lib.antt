@@ -27,3 +27,4 @@ mod WorkedReducers
 mod WorkedShapes
 mod WorkedWriters
 mod WorkedFits
+pub mod Pouring

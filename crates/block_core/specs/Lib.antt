@@ -22,3 +22,4 @@ pub mod Runs
 pub mod Stands
 pub mod Agree
 pub mod Steps
+pub mod Bursts

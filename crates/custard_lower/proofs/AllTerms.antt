@@ -180,7 +180,7 @@ module _ (p : Program) (es : List Entries) (ok : accepted p ≡ true) (same : le
         (value_shape levels) level_on values_on
         (right-first sizes ss n sized inside).0
         (λ one. ap (λ (r : ℕ). of_term n (values_from r) r Value) one ∙ (right-first sizes ss n sized inside).1)
-        (omega arith) marks_on
+        (omega arith) (λ q. refl) marks_on
         (λ e i j. right-fill-coordinates sizes ss sized e i j few n (pruned_from e) inside (low_prune e).0 (low_prune e).1)
         (λ e i j.
         subst (λ (r : ℕ). Fills n Right e (of_term n (pruned_from e) (suc e) Coordinate) (of_term n (values_from r) r Value)) j
@@ -222,7 +222,7 @@ module _ (p : Program) (es : List Entries) (ok : accepted p ≡ true) (same : le
         (values_on 0 first_plan first_matches first_inside first_part first_stands)
         (left-first sizes ss sized two added).0
         (λ one. ap (λ (r : ℕ). of_term 0 (values_from r) r Value) one ∙ (left-first sizes ss sized two added).1)
-        (omega arith) (marks_on 0 first_plan first_matches first_inside first_part first_stands)
+        (omega arith) (λ q. refl) (marks_on 0 first_plan first_matches first_inside first_part first_stands)
         (λ e i j. first-fill-coordinates sizes ss sized e i j few (pruned_from e) two added (low_prune e).0 (low_prune e).1)
         (λ e i j.
         subst (λ (r : ℕ). Fills 1 Left e (of_term 0 (pruned_from e) (suc e) Coordinate) (of_term 0 (values_from r) r Value)) j
@@ -326,7 +326,7 @@ module _ (p : Program) (es : List Entries) (ok : accepted p ≡ true) (same : le
         join-stands p es storages n few
         (λ d i j. union-presence sizes ss n inside d i (flat d j))
         (λ some. union-values sizes ss n inside levels sized refl some (flat levels (omega arith)))
-        (λ side d j. constant-on (beside_shape sizes ss n side d) 1 (flat d j))
+        (λ side d j. constant-on (beside_shape sizes ss n side d) 1 (flat d j) (λ q. refl))
         more.made (part tree l) (part (first_tree n plan) more) stands.sound
         (side-on p es storages n few Left l.made more.made (part tree l) on (x.side inside))
         (right_side n plan matches inside more stands) t.minus
@@ -346,7 +346,7 @@ module _ (p : Program) (es : List Entries) (ok : accepted p ≡ true) (same : le
         (λ e. joined_shape sizes ss n (suc e)) (joined_shape sizes ss n levels)
         joins.coordinates joins.values (join-first sizes ss n later).0
         (λ one. ap (λ (r : ℕ). joined_at n r Value) one ∙ (join-first sizes ss n later).1)
-        (omega arith) refl
+        (omega arith) (λ q. refl) refl
         (λ e i j. left-fill-coordinates sizes ss sized e i j few n later)
         (λ e i j. subst (λ (r : ℕ). Fills (suc n) Left e (joined_at n (suc e) Coordinate) (joined_at n r Value)) j
         (left-fill-values sizes ss sized e i j few n later))

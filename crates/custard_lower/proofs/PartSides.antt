@@ -1,5 +1,5 @@
 -- A term, or a join, whose levels stand on outputs, is a side of the next join.
-use Rattle.std.specs.Prelude.{◌≡◌, ◌<◌, ◌≤◌, ℕ, suc, List, [], ◌∷◌, length, get_or}
+use Rattle.std.specs.Prelude.{true, ◌≡◌, ◌<◌, ◌≤◌, ℕ, suc, List, [], ◌∷◌, length, get_or, refl}
 use Rattle.std.proofs.Common.{arith, sym, ◌∙◌, ap, subst}
 use Rattle.stream_tokens.specs.declared.Token.{Token}
 use Rattle.sam_model.specs.declared.tensors.Entries.{Entries}
@@ -20,11 +20,12 @@ use Rattle.custard_lower.proofs.ValueLaws.{constant-on}
 use Rattle.custard_lower.proofs.JoinSound.{J, SideStands}
 
 -- where the same coordinates are told of two trees, so is the same constant
-pub same-marks : (a b : Shape) (c : ℕ) → a.depth ≤ 200 → b.depth ≤ 200 → stream_at a Coordinate ≡ stream_at b Coordinate
+pub same-marks : (a b : Shape) (c : ℕ) → a.depth ≤ 200 → b.depth ≤ 200
+    → ((p : List ℕ) → a.has p ≡ true) → ((p : List ℕ) → b.has p ≡ true) → stream_at a Coordinate ≡ stream_at b Coordinate
     → stream_at a (Literal c) ≡ stream_at b (Literal c)
-same-marks a b c h k e =
-    let x = (constant-on a c h).made_of in
-    let y = (constant-on b c k).made_of in
+same-marks a b c h k all every e =
+    let x = (constant-on a c h all).made_of in
+    let y = (constant-on b c k every).made_of in
     ap (port 0) (sym x ∙ ap (λ (s : List Token). outputs (ConstKind c) (s ∷ [])) e ∙ y)
 
 module _ (p : Program) (es : List Entries) (storages : List Ranked) (last : ℕ) (few : length (result_sizes p) < 9) where
@@ -49,17 +50,17 @@ module _ (p : Program) (es : List Entries) (storages : List Ranked) (last : ℕ)
       → Stands stream made l.values (stream_at value Value)
       → stream_at (level 0) Coordinate ≡ stream_at (beside side 1) Coordinate
       → (levels ≡ 1 → stream_at value Value ≡ stream_at (beside side 1) Value)
-      → (level 0).depth ≤ 200 → stream (record { tree = l.tree; attr = Literal 1 }) ≡ stream_at (level 0) (Literal 1)
+      → (level 0).depth ≤ 200 → ((p : List ℕ) → (level 0).has p ≡ true) → stream (record { tree = l.tree; attr = Literal 1 }) ≡ stream_at (level 0) (Literal 1)
       → ((e : ℕ) → 0 < e → e < levels → Gives (FillKind 0) (there side e ∷ stream_at (level e) Coordinate ∷ [])
       (stream_at (beside side (suc e)) Coordinate ∷ []))
       → ((e : ℕ) → 0 < e → suc e ≡ levels
       → Gives (FillKind 1) (there side e ∷ stream_at (level e) Coordinate ∷ stream_at value Value ∷ [])
       (stream_at (beside side (suc e)) Coordinate ∷ stream_at (beside side (suc e)) Value ∷ []))
       → SideStands p es storages last few side made l
-  part-side side made l level value stands values first only flat marks fill fill_values = record {
+  part-side side made l level value stands values first only flat all marks fill fill_values = record {
     first = λ i. subst (λ (s : List Token). Stands stream made (get_or l.coordinates 0 0) s) first (stands 0 i);
     only = λ i. subst (λ (s : List Token). Stands stream made l.values s) (only i) values;
-    marks = marks ∙ same-marks (level 0) (beside side 1) 1 flat (omega arith) first;
+    marks = marks ∙ same-marks (level 0) (beside side 1) 1 flat (omega arith) all (λ p. refl) first;
     later = λ e i j. (stream_at (level e) Coordinate, stands e (omega (arith, j)), fill e i (omega (arith, j)));
     final =
         λ e i j. (stream_at (level e) Coordinate, stream_at value Value, stands e (omega (arith, j)), values, fill_values e i j);

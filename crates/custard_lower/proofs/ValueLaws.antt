@@ -1,5 +1,5 @@
 -- The root, the products and the constants of a term: what is told of each prefix of one tree.
-use Rattle.std.specs.Prelude.{◌≡◌, ◌<◌, ◌≤◌, ℕ, suc, ◌*◌, ◌%◌, ◌^◌, Bool, List, [], ◌∷◌, length, take, Some, refl}
+use Rattle.std.specs.Prelude.{cond, Bool, None, true, ◌≡◌, ◌<◌, ◌≤◌, ℕ, suc, ◌*◌, ◌%◌, ◌^◌, Bool, List, [], ◌∷◌, length, take, Some, refl}
 use mathlib.Core.List.{map}
 use Rattle.std.proofs.Common.{arith, sym, ◌∙◌, ap, subst, mul-one}
 use Rattle.std.proofs.Math.Nat.{mod-mod}
@@ -97,8 +97,9 @@ product-gives t d k mask h few =
 
 -- a constant beside each number that is told of a tree
 constant_beside : (s : Shape) (a : Attr) (x : List ℕ → ℕ) (c : ℕ) → s.depth ≤ 200 → ((p : List ℕ) → Some (x p) ≡ token s a p)
+    → ((p : List ℕ) → Some c ≡ token s (Literal c) p)
     → Gives (ConstKind c) (stream_at s a ∷ []) (stream_at s (Literal c) ∷ [])
-constant_beside s a x c h e =
+constant_beside s a x c h e k =
     gives-same (ConstKind c) _ _ _ _ refl (ap (λ (t : List Token). t ∷ []) constants)
     (const-gives c (stream_at s a) (stream_at-IsStream s a h, tt))
   where
@@ -106,17 +107,17 @@ constant_beside s a x c h e =
     constants =
         ap (map (on_item (λ _. c))) (sym (told-alike s a (λ p. Some (x p)) e))
         ∙ changed (λ _. c) x (paths_of s)
-        ∙ sym (stream-over s (Literal c))
+        ∙ told-alike s (Literal c) (λ p. Some c) k
 
 -- a constant beside each coordinate of a tree
-pub constant-on : (s : Shape) (c : ℕ) → s.depth ≤ 200
+pub constant-on : (s : Shape) (c : ℕ) → s.depth ≤ 200 → ((p : List ℕ) → s.has p ≡ true)
     → Gives (ConstKind c) (stream_at s Coordinate ∷ []) (stream_at s (Literal c) ∷ [])
-constant-on s c h = constant_beside s Coordinate last c h (λ p. refl)
+constant-on s c h all = constant_beside s Coordinate last c h (λ p. refl) (λ p. ap (λ b. cond b (Some c) None) (sym (all p)))
 
 -- a constant beside each product
 pub constant-gives : (t : TermData) (d c k : ℕ) (mask : List Bool) → d ≤ 200
     → Gives (ConstKind c) (product_stream t d mask (Partial k) ∷ []) (product_stream t d mask (Literal c) ∷ [])
-constant-gives t d c k mask h = constant_beside (product_shape t d mask) (Partial k) (partial (take k t.accesses)) c h (λ p. refl)
+constant-gives t d c k mask h = constant_beside (product_shape t d mask) (Partial k) (partial (take k t.accesses)) c h (λ p. refl) (λ p. refl)
 
 all_factors : (t : TermData) (p : List ℕ) → partial (take (length t.accesses) t.accesses) p ≡ partial t.accesses p
 all_factors t p = ap (λ (accesses : List Operand). partial accesses p) (take_all (length t.accesses) t.accesses (omega arith))

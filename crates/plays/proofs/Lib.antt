@@ -8,3 +8,6 @@ pub mod Ends
 pub mod Finishing
 pub mod Count
 mod Worked
+pub mod Lists
+pub mod Tellings
+pub mod Rests

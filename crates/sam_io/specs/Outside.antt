@@ -1,5 +1,5 @@
 -- What is told of files and of sinks, and how a call changes it.
-use Rattle.std.specs.Prelude.{◌≡◌, ℕ, ◌+◌, ◌<◌, ◌≤◌, max, List, [], ◌∷◌, ◌++◌, length, take, drop, Option, Some, None, Result, Ok, Err, IsSome, IsSomeAnd, IfSome, nat_eq, if◌then◌else◌}
+use Rattle.std.specs.Prelude.{◌≡◌, ℕ, ◌+◌, ◌<◌, ◌≤◌, ◌⊎◌, max, List, [], ◌∷◌, ◌++◌, length, take, drop, Option, Some, None, Result, Ok, Err, IsSome, IsSomeAnd, IfSome, nat_eq, if◌then◌else◌}
 use Rattle.std.specs.Cmp.Lexicographic.{pointwise}
 
 -- what is told of the files: names with their bytes; where a name stands twice, its first pair counts
@@ -67,3 +67,7 @@ LongerThan told name most = (m : Told) → told ≡ Some m → IsSomeAnd (bytes_
 abbrev pub BeginsTold : Option Told → List ℕ → List ℕ → Type 0
 BeginsTold told name text =
     (m : Told) → told ≡ Some m → IsSomeAnd (bytes_of m name) (λ bytes. text ≡ take (length text) bytes)
+
+-- no file is begun, or the named one
+abbrev pub IsAt : List ℕ → Place → Type 0
+IsAt name place = (place ≡ None) ⊎ ((given : ℕ) × (place ≡ Some (name, given)))

@@ -2,7 +2,7 @@
 
 ghost use Rattle.std.specs.Prelude.{◌≡◌, ℕ, ◌+◌, ◌<◌, ◌≤◌, ◌⊎◌, [], Some, length, IfOk, OnOk, OnErr, IsErrOf};
 ghost use Rattle.sam_base.specs.Causes.{Rose, HasCause};
-ghost use Rattle.sam_io.specs.Outside.{Place, NoneLacks, Lacks, Tells, grown, GrewByPart, LongerThan};
+ghost use Rattle.sam_io.specs.Outside.{Place, NoneLacks, Lacks, Tells, grown, GrewByPart, LongerThan, IsAt};
 
 use crate::outside::{Failed, Files, Opened, Sink};
 use sam_base::{FILE_MOST, Name};
@@ -37,6 +37,7 @@ pub fn read_whole<F: Files>(alloc: Global, files: &mut F, name: &Name) -> Result
     ensures missing { IsErrOf result ReadEnd.Missing → Rose (F.misses files.old) (F.misses files.new) }
     ensures lacks { IsErrOf result ReadEnd.Missing → Lacks (F.told files.old) name.now }
     ensures failed { IsErrOf result ReadEnd.Failed → Rose (F.faults files.old) (F.faults files.new) }
+    ensures failed_at { IsErrOf result ReadEnd.Failed → IsAt name.now (F.place files.new) }
     ensures long { IsErrOf result ReadEnd.TooLong → F.place files.new ≡ Some (name.now, FILE_MOST + 1) }
     ensures over { IsErrOf result ReadEnd.TooLong → LongerThan (F.told files.old) name.now FILE_MOST }
 
@@ -65,6 +66,7 @@ fn read_begun<F: Files>(alloc: Global, files: &mut F, name: &Name) -> Result<Nam
     ensures at_end { IfOk result (λ text. F.place files.new ≡ Some (name.now, length text)) }
     ensures present { ¬ IsErrOf result ReadEnd.Missing }
     ensures failed { IsErrOf result ReadEnd.Failed → Rose (F.faults files.old) (F.faults files.new) }
+    ensures failed_at { IsErrOf result ReadEnd.Failed → IsAt name.now (F.place files.new) }
     ensures long { IsErrOf result ReadEnd.TooLong → F.place files.new ≡ Some (name.now, FILE_MOST + 1) }
     ensures over { IsErrOf result ReadEnd.TooLong → LongerThan (F.told files.old) name.now FILE_MOST }
     ensures only_long { F.place files.new ≡ Some (name.now, FILE_MOST + 1) →

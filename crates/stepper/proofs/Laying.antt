@@ -15,7 +15,7 @@ use Rattle.plays.specs.Net.{Waits, start}
 use Rattle.plays.proofs.Waiting.{waits_start}
 use Rattle.plays.proofs.Sums.{sum_zero}
 use Rattle.plays.proofs.Always.{start_kept}
-use Rattle.stepper.specs.Held.{Table, Queued, Held}
+use Rattle.plays.specs.Held.{Table, Queued, Held}
 use Rattle.stepper.specs.NetOf.{net_of, rooms_of}
 use Rattle.stepper.specs.AtState.{Lists, Routed, AtState}
 

@@ -10,3 +10,6 @@ pub mod Stalling
 pub mod Laying
 pub mod GraphLaws
 mod Worked
+mod Bursting
+mod Totals
+mod TotalsOf

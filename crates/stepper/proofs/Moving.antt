@@ -18,7 +18,7 @@ use Rattle.plays.specs.Net.{State, Waits, can, raise, sum_below}
 use Rattle.plays.proofs.Event.{raise_here, raise_there}
 use Rattle.plays.proofs.Sums.{raise_sum}
 use Rattle.plays.proofs.Always.{event_kept, in_net}
-use Rattle.stepper.specs.Held.{Queued, Held, at_port}
+use Rattle.plays.specs.Held.{Queued, Held, at_port}
 use Rattle.stepper.specs.NetOf.{net_of, rooms_of}
 use Rattle.stepper.specs.AtState.{AtState, QueueOf}
 use Rattle.stepper.proofs.Lists.{same_some, get_set_here, get_set_there}

@@ -16,10 +16,10 @@ use Rattle.graph.specs.WholeStreams.{whole_inputs}
 use Rattle.plays.specs.Net.{Net, State, Wired, Waits, can, raise, waiting, has_room}
 use Rattle.plays.proofs.Event.{sent_put, sent_put_there}
 use Rattle.plays.proofs.Waiting.{waits_length, waits_put, waits_put_there, can_put}
-use Rattle.stepper.specs.Held.{Queued, Held, at_port}
+use Rattle.plays.specs.Held.{Queued, Held, at_port}
 use Rattle.stepper.specs.NetOf.{net_of, rooms_of}
 use Rattle.stepper.specs.AtState.{AtState, Somewhere}
-use Rattle.stepper.specs.Told.{Grew, GrewAt, one_told, HasLists}
+use Rattle.plays.specs.Told.{Grew, GrewAt, one_told, HasLists}
 use Rattle.stepper.specs.Steps.{Wishes, WaitsOn, Moved, hindrance_of}
 use Rattle.stepper.proofs.Lists.{some_in, set_twice, set_same}
 use Rattle.stepper.proofs.Wires.{wired}

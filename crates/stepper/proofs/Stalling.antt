@@ -16,7 +16,7 @@ use Rattle.graph.specs.declared.graphs.Graph.{Graph}
 use Rattle.graph.specs.WholeStreams.{whole_inputs}
 use Rattle.graph.specs.Standing.{block_moves, StandAt, at_end}
 use Rattle.plays.specs.Net.{Net, State, Kept, Rooms, Finished}
-use Rattle.stepper.specs.Held.{Held, at_port}
+use Rattle.plays.specs.Held.{Held, at_port}
 use Rattle.stepper.specs.NetOf.{net_of}
 use Rattle.stepper.specs.AtState.{Somewhere, Wherever}
 use Rattle.stepper.specs.Steps.{Wishes}

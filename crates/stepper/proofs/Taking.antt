@@ -14,10 +14,10 @@ use Rattle.graph.specs.WholeStreams.{whole_inputs}
 use Rattle.plays.specs.Net.{Net, State, Waits, can, raise, waiting}
 use Rattle.plays.proofs.Event.{sent_take}
 use Rattle.plays.proofs.Waiting.{waits_length, waits_take, waits_take_there, front_next, can_take}
-use Rattle.stepper.specs.Held.{Queued, Held, at_port}
+use Rattle.plays.specs.Held.{Queued, Held, at_port}
 use Rattle.stepper.specs.NetOf.{net_of, rooms_of}
 use Rattle.stepper.specs.AtState.{AtState, Somewhere}
-use Rattle.stepper.specs.Told.{Grew}
+use Rattle.plays.specs.Told.{Grew}
 use Rattle.stepper.specs.Steps.{Wishes, WaitsOn, Moved, hindrance_of}
 use Rattle.stepper.proofs.Lists.{some_in}
 use Rattle.stepper.proofs.Wires.{wired}

@@ -9,10 +9,10 @@ use Rattle.block_core.specs.Ports.{Streams}
 use Rattle.block_core.specs.Kind.{Kind}
 use Rattle.plays.specs.Net.{Net, Rooms, State, Stuck, can, can_move, turn, play}
 use Rattle.plays.proofs.Always.{turn_made, turn_idle, play_append}
-use Rattle.stepper.specs.Held.{Held}
+use Rattle.plays.specs.Held.{Held}
 use Rattle.stepper.specs.NetOf.{net_of, rooms_of}
 use Rattle.stepper.specs.AtState.{AtState, Wherever}
-use Rattle.stepper.specs.Told.{Grew, HasLists}
+use Rattle.plays.specs.Told.{Grew, HasLists}
 use Rattle.stepper.specs.Steps.{WaitsOn, Through, Moved, SameShape, hindrance, hindrance_of}
 use Rattle.stepper.specs.Runs.{Played, Turned, Onwards}
 

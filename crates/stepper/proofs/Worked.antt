@@ -13,9 +13,9 @@ use Rattle.graph.specs.declared.graphs.Graph.{Graph}
 use Rattle.graph.specs.WholeStreams.{whole_stream}
 use Rattle.plays.specs.Net.{Net, play, start, sum_below}
 use Rattle.stepper.specs.Capacity.{InRange, CapacitiesFor}
-use Rattle.stepper.specs.Held.{Table, at_port}
+use Rattle.plays.specs.Held.{Table, at_port}
 use Rattle.stepper.specs.NetOf.{net_of, rooms_of}
-use Rattle.stepper.specs.Told.{one_told, HasLists, Grew, GrewAt}
+use Rattle.plays.specs.Told.{one_told, HasLists, Grew, GrewAt}
 use Rattle.stepper.specs.Steps.{hindrance}
 use Rattle.stepper.specs.Endings.{waiting_list}
 

@@ -9,7 +9,7 @@ use Rattle.graph.specs.Order.{IsForwardOrder}
 use Rattle.graph.specs.WholeStreams.{Consistent}
 use Rattle.graph.specs.Standing.{StandAt}
 use Rattle.plays.specs.Net.{Net, State, Kept, Waits, sum_below}
-use Rattle.stepper.specs.Held.{Table, at_port, Routes, Queued, Held}
+use Rattle.plays.specs.Held.{Table, at_port, Routes, Queued, Held}
 use Rattle.stepper.specs.NetOf.{net_of, rooms_of}
 
 -- The table lists these channels at the ports of so many blocks.

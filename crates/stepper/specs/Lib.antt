@@ -1,10 +1,10 @@
 pub mod Capacity
-pub mod Held
 pub mod Routes
 pub mod NetOf
 pub mod AtState
-pub mod Told
 pub mod Steps
 pub mod Runs
 pub mod Endings
 pub mod Laws
+pub mod Bursting
+pub mod Shape

@@ -1,7 +1,7 @@
 -- The routes of a machine's plan.
 use Rattle.stepper.specs.declared.routes.Ports.{Ports}
 use Rattle.stepper.specs.declared.routes.Plan.{Plan}
-use Rattle.stepper.specs.Held.{Table, Routes}
+use Rattle.plays.specs.Held.{Table, Routes}
 
 abbrev pub table_of : Ports → Table
 table_of p = record { first = p.first.items; channels = p.channels.items }

@@ -6,10 +6,10 @@ use Rattle.block_core.specs.Ports.{Streams}
 use Rattle.block_core.specs.Kind.{Kind}
 use Rattle.graph.specs.declared.graphs.Graph.{Graph}
 use Rattle.plays.specs.Net.{Net, Rooms, State, can, turn, play}
-use Rattle.stepper.specs.Held.{Held}
+use Rattle.plays.specs.Held.{Held}
 use Rattle.stepper.specs.NetOf.{net_of, rooms_of}
 use Rattle.stepper.specs.AtState.{AtState}
-use Rattle.stepper.specs.Told.{Grew}
+use Rattle.plays.specs.Told.{Grew}
 
 -- events of the first state lead to the second
 abbrev pub Leads : Net → Rooms → State → State → Type 0

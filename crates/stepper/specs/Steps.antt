@@ -8,10 +8,10 @@ use Rattle.block_core.specs.Ports.{Streams}
 use Rattle.block_core.specs.Kind.{Kind}
 use Rattle.graph.specs.declared.graphs.Graph.{Graph}
 use Rattle.plays.specs.Net.{Net, Rooms, State, waiting, has_room, can, raise}
-use Rattle.stepper.specs.Held.{at_port, Queued, Held}
+use Rattle.plays.specs.Held.{at_port, Queued, Held}
 use Rattle.stepper.specs.NetOf.{net_of, rooms_of}
 use Rattle.stepper.specs.AtState.{AtState, Wherever}
-use Rattle.stepper.specs.Told.{Grew}
+use Rattle.plays.specs.Told.{Grew}
 
 -- the channel on which a move has to wait, and whether it waits for room there
 abbrev pub hindrance_of : Net → Rooms → State → ℕ → Option Move → Option (ℕ × Bool)

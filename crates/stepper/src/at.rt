@@ -5,7 +5,7 @@ ghost use Rattle.block_core.specs.Move.{Taking, Putting, wish_of};
 ghost use Rattle.block_core.specs.Ports.{Streams};
 ghost use Rattle.block_core.specs.Kind.{moves};
 ghost use Rattle.plays.specs.Net.{has_room};
-ghost use Rattle.stepper.specs.Held.{Queued};
+ghost use Rattle.plays.specs.Held.{Queued};
 
 use crate::queue::Queue;
 use block_core::{BlockStep, Wish};

@@ -2,6 +2,7 @@
 #![tactic(auto)]
 
 mod at;
+mod ends;
 mod laws;
 mod machine;
 mod queue;

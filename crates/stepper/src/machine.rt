@@ -19,6 +19,7 @@ use std::marker::Model;
 
 mod finish;
 mod play;
+mod pour;
 mod step;
 
 pub use finish::Ending;
@@ -50,7 +51,7 @@ pub struct Machine<B: BlockStep> {
 }
 
 impl<B: BlockStep> Model for Machine<B> {
-    ghost use Rattle.stepper.specs.Held.{Held};
+    ghost use Rattle.plays.specs.Held.{Held};
     ghost use Rattle.stepper.specs.Routes.{routes_of};
     ghost use Rattle.stepper.specs.AtState.{Somewhere};
 

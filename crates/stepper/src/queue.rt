@@ -1,8 +1,9 @@
 //! What waits on a channel.
 
-ghost use Rattle.std.specs.Prelude.{◌≡◌, ◌<◌, ◌-◌, ℕ, [], ◌∷◌, ◌++◌, length, take, drop, slice_get, get_or, not, true, Some, None, IsOk, IsSome, IfOk, OnOk, OnErr};
+ghost use Rattle.std.specs.Prelude.{◌≡◌, ◌<◌, ◌-◌, ℕ, List, [], ◌∷◌, ◌++◌, length, take, drop, slice_get, get_or, not, true, Some, None, IsOk, IsSome, IfOk, OnOk, OnErr};
+ghost use Rattle.stream_tokens.specs.declared.Token.{Token as TheToken};
 ghost use Rattle.plays.specs.Net.{has_room};
-ghost use Rattle.stepper.specs.Held.{Queued};
+ghost use Rattle.plays.specs.Held.{Queued};
 
 use sam_base::Items;
 use std::alloc::{AllocError, Global};
@@ -20,7 +21,7 @@ pub(crate) struct Queue {
 impl Model for Queue {
     ghost use Rattle.std.specs.Prelude.{◌≡◌, ◌≤◌, ℕ, Some};
     ghost use Rattle.std.specs.VecDeque.{deque_capacity};
-    ghost use Rattle.stepper.specs.Held.{Queued};
+    ghost use Rattle.plays.specs.Held.{Queued};
 
     ghost Value = { Queued };
 
@@ -66,6 +67,14 @@ impl Queue {
         ensures { result ≡ slice_get self.now.tokens 0 }
     {
         self.tokens.front().copied()
+    }
+
+    /// The tokens that lie together from the one that is taken next.
+    #[inline]
+    pub(crate) fn together(&self) -> &[Token]
+        ensures { ((rest : List TheToken) × (result.now ++ rest ≡ self.now.tokens)) }
+    {
+        self.tokens.as_slices().0
     }
 
     /// Puts a token at the back, where there is room.

@@ -2,9 +2,10 @@
 
 ghost use Rattle.std.specs.Prelude.{◌≡◌, ◌<◌, ◌+◌, ◌^◌, [], ◌∷◌, ◌++◌, length, get_or, All, IfOk};
 ghost use Rattle.graph.specs.Wiring.{WellFormed};
-ghost use Rattle.stepper.specs.Held.{at_port};
+ghost use Rattle.plays.specs.Held.{at_port};
 ghost use Rattle.stepper.specs.Routes.{table_of, routes_of};
 ghost use Rattle.stepper.specs.AtState.{Routed};
+ghost use Rattle.stepper.specs.Bursting.{row_of};
 
 use graph::{Graph, forward_order};
 use sam_base::Nums;
@@ -40,6 +41,20 @@ impl Ports {
             self.channels.push(*channel as u32)?;
         }
         Ok(())
+    }
+
+    /// The channels at the ports of a block and of those after it.
+    #[inline]
+    pub(crate) fn row(&self, block: usize) -> &[u32]
+        requires { block < length (table_of self.now).first }
+        ensures { result.now ≡ row_of (table_of self.now) block }
+    {
+        let first = self.first[block];
+        let channels = self.channels.as_slice();
+        if first < channels.len() {
+            return &channels[first..];
+        }
+        &[]
     }
 
     /// The channel at a port of a block.

@@ -2,7 +2,7 @@
 
 ghost use Rattle.std.specs.Prelude.{◌≡◌, ◌<◌, ◌+◌, ℕ, Bool, true, false, List, [], ◌∷◌, ◌++◌, length, slice_get, Option, Some, None, IsOk, IfOk, IfErr, get_or};
 ghost use Rattle.stream_tokens.specs.declared.Token.{Token};
-ghost use Rattle.stepper.specs.Told.{one_told, HasLists};
+ghost use Rattle.plays.specs.Told.{one_told, HasLists};
 
 use std::alloc::{AllocError, Global};
 use std::marker::Model;

@@ -21,11 +21,12 @@ use Rattle.stream_model.specs.Trees.{in_product, in_pruned, value_reduced, reduc
 use Rattle.stream_model.specs.Joins.{Part, joined, side_part, in_beside}
 
 -- A tree and what can be told of its prefixes: the test and the sizes that it grows by, its depth, the term that its
--- factors are of, and the values of the tree and of the sides that it joins.
+-- factors are of and which prefixes that term has, and the values of the tree and of the sides that it joins.
 pub record Shape : Type 0 where
   pub ok : List ℕ → Bool
   pub sizes : List ℕ
   pub depth : ℕ
+  pub has : List ℕ → Bool
   pub term : TermData
   pub value : List ℕ → Leaf
   pub sides : Side → Part
@@ -44,13 +45,14 @@ abbrev pub loop_sizes : List Loop → List ℕ
 loop_sizes loops = map (λ l. l.0) loops
 
 abbrev pub root_shape : Shape
-root_shape = record { ok = λ _. true; sizes = []; depth = 0; term = no_term; value = λ _. None; sides = λ _. no_part }
+root_shape = record { ok = λ _. true; sizes = []; depth = 0; has = λ _. true; term = no_term; value = λ _. None; sides = λ _. no_part }
 
 abbrev pub product_shape : TermData → ℕ → List Bool → Shape
 product_shape t level mask = record {
   ok = in_product t level mask;
   sizes = loop_sizes t.loops;
   depth = level;
+  has = λ _. true;
   term = t;
   value = λ _. None;
   sides = λ _. no_part;
@@ -61,6 +63,7 @@ reduced_shape t gone prune depth = record {
   ok = in_pruned t gone prune;
   sizes = reduced_sizes t gone;
   depth = depth;
+  has = λ _. true;
   term = t;
   value = value_reduced t gone;
   sides = λ _. no_part;
@@ -75,6 +78,7 @@ joined_shape sizes ss last depth = record {
   ok = (joined ss last).has;
   sizes = sizes;
   depth = depth;
+  has = λ _. true;
   term = no_term;
   value = (joined ss last).value;
   sides = side_part ss last;
@@ -85,6 +89,7 @@ beside_shape sizes ss last side depth = record {
   ok = in_beside ss last side depth;
   sizes = sizes;
   depth = depth;
+  has = λ _. true;
   term = no_term;
   value = (side_part ss last side).value;
   sides = side_part ss last;
@@ -107,16 +112,20 @@ last [] = 0
 last (c ∷ []) = c
 last (c ∷ d ∷ p) = last (d ∷ p)
 
+-- where a test holds, and nothing elsewhere
+abbrev pub only_where : (List ℕ → Bool) → (List ℕ → Leaf) → List ℕ → Leaf
+only_where has x p = cond (has p) (x p) None
+
 abbrev pub token : Shape → Attr → List ℕ → Leaf
 token s Coordinate p = Some (last p)
-token s (Rank f) p = let a = access_at s.term.accesses f in Some (rank_of a.tensor (restricted a p))
-token s (FactorValue f) p = let a = access_at s.term.accesses f in Some (value_at a.tensor (restricted a p))
-token s (Partial k) p = Some (partial (take k s.term.accesses) p)
-token s Whole p = Some (whole s.term p)
+token s (Rank f) p = only_where s.has (λ q. let a = access_at s.term.accesses f in Some (rank_of a.tensor (restricted a q))) p
+token s (FactorValue f) p = only_where s.has (λ q. let a = access_at s.term.accesses f in Some (value_at a.tensor (restricted a q))) p
+token s (Partial k) p = only_where s.has (λ q. Some (partial (take k s.term.accesses) q)) p
+token s Whole p = only_where s.has (λ q. Some (whole s.term q)) p
 token s Value p = s.value p
 token s (Present side) p = cond ((s.sides side).has p) (Some 1) None
 token s (SideValue side) p = (s.sides side).value p
-token s (Literal n) p = Some n
+token s (Literal n) p = only_where s.has (λ _. Some n) p
 
 -- the stream of the tree of a shape, and the same as fibers
 abbrev pub stream_at : Shape → Attr → List Token

@@ -7,7 +7,7 @@ ghost use Rattle.graph.specs.declared.graphs.Graph.{Graph};
 ghost use Rattle.graph.specs.Standing.{StandAt, at_end};
 ghost use Rattle.plays.specs.Net.{State, Stuck, Finished, can};
 ghost use Rattle.stepper.specs.AtState.{AtState, Wherever};
-ghost use Rattle.stepper.specs.Told.{HasLists};
+ghost use Rattle.plays.specs.Told.{HasLists};
 ghost use Rattle.stepper.specs.Steps.{Wishes, SameShape};
 ghost use Rattle.stepper.specs.Runs.{Onwards};
 ghost use Rattle.stepper.specs.Endings.{waiting_for, waiting_list};

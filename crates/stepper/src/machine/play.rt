@@ -1,7 +1,7 @@
 //! A schedule of blocks.
 
 ghost use Rattle.std.specs.Prelude.{◌≡◌, ◌<◌, length, All, IfOk, IfErr};
-ghost use Rattle.stepper.specs.Told.{HasLists};
+ghost use Rattle.plays.specs.Told.{HasLists};
 ghost use Rattle.stepper.specs.Steps.{SameShape};
 ghost use Rattle.stepper.specs.Runs.{Played, PartPlayed};
 

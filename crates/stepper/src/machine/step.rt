@@ -3,7 +3,7 @@
 ghost use Rattle.std.specs.Prelude.{◌≡◌, ◌<◌, ◌+◌, ◌-◌, ◌^◌, min, ℕ, List, Bool, false, Option, Some, length, slice_get, IsOk, IfOk, IfErr};
 ghost use Rattle.stream_tokens.specs.declared.Token.{Token};
 ghost use Rattle.block_core.specs.declared.Wish.TheVariants.{Take as WishTake, Put as WishPut};
-ghost use Rattle.stepper.specs.Told.{HasLists};
+ghost use Rattle.plays.specs.Told.{HasLists};
 ghost use Rattle.stepper.specs.Steps.{Wishes, WaitsOn, Through, Moved, SameShape, BoundedOuts};
 ghost use Rattle.stepper.specs.Runs.{Turned};
 

@@ -1,5 +1,5 @@
 use Rattle.std.proofs.Common.{◌≡◌, ℕ, [], length, slice_get, get_or, Some, None}
-use Rattle.stepper.specs.Held.{Queued}
+use Rattle.plays.specs.Held.{Queued}
 use Rattle.stepper.proofs.queue.queues_for.Given as goal
 
 abbrev pub invariant-loop-room : goal.invariant-loop-room

@@ -1,5 +1,5 @@
 use Rattle.std.proofs.Common.{length}
-use Rattle.stepper.specs.Told.{HasLists}
+use Rattle.plays.specs.Told.{HasLists}
 use Rattle.stepper.specs.Steps.{SameShape}
 use Rattle.stepper.specs.Runs.{Onwards}
 use Rattle.stepper.proofs.machine.Machine.finish.Given as goal

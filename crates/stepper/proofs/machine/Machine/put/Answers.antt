@@ -3,10 +3,10 @@ use Rattle.std.proofs.lemmas.Bool.{false≢true}
 use Rattle.std.proofs.lemmas.Option.{slice_get_read}
 use Rattle.block_core.specs.declared.Wish.TheVariants.{Put}
 use Rattle.plays.specs.Net.{has_room}
-use Rattle.stepper.specs.Held.{Queued, at_port}
+use Rattle.plays.specs.Held.{Queued, at_port}
 use Rattle.stepper.specs.Routes.{routes_of}
 use Rattle.stepper.specs.AtState.{AtState, Somewhere}
-use Rattle.stepper.specs.Told.{HasLists}
+use Rattle.plays.specs.Told.{HasLists}
 use Rattle.stepper.specs.Steps.{Wishes}
 use Rattle.stepper.proofs.Lists.{same_some, get_set_here}
 use Rattle.stepper.proofs.Stepping.{same_blocked}

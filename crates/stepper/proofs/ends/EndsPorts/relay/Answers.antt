@@ -1,0 +1,42 @@
+use Rattle.std.proofs.Common.{ℕ, ◌≡◌, ◌≤◌, ◌∙◌, ap, refl, length, take, arith, false, true, Ok}
+use Rattle.stream_tokens.specs.declared.Token.TheVariants.{Item}
+use Rattle.block_core.specs.Bursts.{relayed}
+use Rattle.block_core.proofs.Pouring.{always_err}
+use Rattle.plays.specs.Rest.{MadeAt, waits_at}
+use Rattle.plays.proofs.Rests.{same_none, same_then, some_read, relayed_start, relay_first, relay_may, relayed_next, relayed_still}
+use Rattle.stepper.proofs.ends.EndsPorts.relay.Goals as goal
+
+pub loop-i-init : goal.loop-i-init
+loop-i-init g c = record { same_queues = refl; same_tap = refl; same_ends = same_none _; relayed = relayed_start _ _ _ _ }
+
+pub relay_one-requires : goal.relay_one-requires
+relay_one-requires g c =
+    let at = some_read c.args.out.now c.loop-i.i (Item 0) c.loop-i-test.true in
+    record { may = relay_may (record { queues = c.args.self.now.queues.now.items; told = g.T.Tap.told c.args.self.now.tap.now; moves = c.args.self.now.moves; block = c.args.self.now.block; ins = c.args.self.now.ins.now; outs = c.args.self.now.outs.now }) c.args.from c.args.to c.args.out.now c.loop-i.i (record { queues = c.loop-i.self.queues.now.items; told = g.T.Tap.told c.loop-i.self.tap.now; moves = c.loop-i.self.moves; block = c.loop-i.self.block; ins = c.loop-i.self.ins.now; outs = c.loop-i.self.outs.now }) _ c.loop-i.invariant.relayed at c.requires.enough c.requires.may }
+
+pub loop-i-preserved : goal.loop-i-preserved
+loop-i-preserved g c =
+    let at = some_read c.args.out.now c.loop-i.i (Item 0) c.loop-i-test.true in
+    let e : c.in_ok-relay_one.field-0 ≡ true = c.if-not-branch.false in
+    let done = ap (λ z. Ok z) e in
+    record {
+      same_queues = c.relay_one.ensures.same_queues ∙ c.loop-i.invariant.same_queues;
+      same_tap = c.relay_one.ensures.same_tap ∙ c.loop-i.invariant.same_tap;
+      same_ends = same_then (record { queues = c.args.self.now.queues.now.items; told = g.T.Tap.told c.args.self.now.tap.now; moves = c.args.self.now.moves; block = c.args.self.now.block; ins = c.args.self.now.ins.now; outs = c.args.self.now.outs.now }) (record { queues = c.loop-i.self.queues.now.items; told = g.T.Tap.told c.loop-i.self.tap.now; moves = c.loop-i.self.moves; block = c.loop-i.self.block; ins = c.loop-i.self.ins.now; outs = c.loop-i.self.outs.now }) (record { queues = c.relay_one.new.self.queues.now.items; told = g.T.Tap.told c.relay_one.new.self.tap.now; moves = c.relay_one.new.self.moves; block = c.relay_one.new.self.block; ins = c.relay_one.new.self.ins.now; outs = c.relay_one.new.self.outs.now }) c.loop-i.invariant.same_ends c.relay_one.ensures.same_ends;
+      relayed = relayed_next (record { queues = c.args.self.now.queues.now.items; told = g.T.Tap.told c.args.self.now.tap.now; moves = c.args.self.now.moves; block = c.args.self.now.block; ins = c.args.self.now.ins.now; outs = c.args.self.now.outs.now }) c.args.from c.args.to c.args.out.now c.loop-i.i (record { queues = c.loop-i.self.queues.now.items; told = g.T.Tap.told c.loop-i.self.tap.now; moves = c.loop-i.self.moves; block = c.loop-i.self.block; ins = c.loop-i.self.ins.now; outs = c.loop-i.self.outs.now }) _ (record { queues = c.relay_one.new.self.queues.now.items; told = g.T.Tap.told c.relay_one.new.self.tap.now; moves = c.relay_one.new.self.moves; block = c.relay_one.new.self.block; ins = c.relay_one.new.self.ins.now; outs = c.relay_one.new.self.outs.now }) c.loop-i.invariant.relayed at c.requires.enough
+          (c.in_ok-relay_one.ensures.relayed done) (c.in_ok-relay_one.ensures.left done);
+    }
+
+pub returns-then-not-branch-clause-relayed : goal.returns-then-not-branch-clause-relayed
+returns-then-not-branch-clause-relayed g c =
+    let e : c.in_ok-relay_one.field-0 ≡ false = c.if-not-branch.true in
+    let l : c.loop-i.i ≤ length c.args.out.now = omega (arith, c.loop-i-test.true) in
+    (l, relayed_still (record { queues = c.args.self.now.queues.now.items; told = g.T.Tap.told c.args.self.now.tap.now; moves = c.args.self.now.moves; block = c.args.self.now.block; ins = c.args.self.now.ins.now; outs = c.args.self.now.outs.now }) c.args.from c.args.to c.args.out.now c.loop-i.i (record { queues = c.loop-i.self.queues.now.items; told = g.T.Tap.told c.loop-i.self.tap.now; moves = c.loop-i.self.moves; block = c.loop-i.self.block; ins = c.loop-i.self.ins.now; outs = c.loop-i.self.outs.now }) (record { queues = c.relay_one.new.self.queues.now.items; told = g.T.Tap.told c.relay_one.new.self.tap.now; moves = c.relay_one.new.self.moves; block = c.relay_one.new.self.block; ins = c.relay_one.new.self.ins.now; outs = c.relay_one.new.self.outs.now }) c.loop-i.invariant.relayed (c.in_ok-relay_one.ensures.full (ap (λ z. Ok z) e)))
+
+pub returns-in_err-relay_one-clause-refused : goal.returns-in_err-relay_one-clause-refused
+returns-in_err-relay_one-clause-refused g c =
+    let l : c.loop-i.i ≤ length c.args.out.now = omega (arith, c.loop-i-test.true) in
+    let made : MadeAt (record { queues = c.args.self.now.queues.now.items; told = g.T.Tap.told c.args.self.now.tap.now; moves = c.args.self.now.moves; block = c.args.self.now.block; ins = c.args.self.now.ins.now; outs = c.args.self.now.outs.now }) (relayed c.args.from c.args.to (take c.loop-i.i (waits_at (record { queues = c.args.self.now.queues.now.items; told = g.T.Tap.told c.args.self.now.tap.now; moves = c.args.self.now.moves; block = c.args.self.now.block; ins = c.args.self.now.ins.now; outs = c.args.self.now.outs.now }) c.args.from)) (take c.loop-i.i c.args.out.now)) (record { queues = c.relay_one.new.self.queues.now.items; told = g.T.Tap.told c.relay_one.new.self.tap.now; moves = c.relay_one.new.self.moves; block = c.relay_one.new.self.block; ins = c.relay_one.new.self.ins.now; outs = c.relay_one.new.self.outs.now }) =
+    relayed_still (record { queues = c.args.self.now.queues.now.items; told = g.T.Tap.told c.args.self.now.tap.now; moves = c.args.self.now.moves; block = c.args.self.now.block; ins = c.args.self.now.ins.now; outs = c.args.self.now.outs.now }) c.args.from c.args.to c.args.out.now c.loop-i.i (record { queues = c.loop-i.self.queues.now.items; told = g.T.Tap.told c.loop-i.self.tap.now; moves = c.loop-i.self.moves; block = c.loop-i.self.block; ins = c.loop-i.self.ins.now; outs = c.loop-i.self.outs.now }) (record { queues = c.relay_one.new.self.queues.now.items; told = g.T.Tap.told c.relay_one.new.self.tap.now; moves = c.relay_one.new.self.moves; block = c.relay_one.new.self.block; ins = c.relay_one.new.self.ins.now; outs = c.relay_one.new.self.outs.now }) c.loop-i.invariant.relayed c.in_err-relay_one.ensures.refused in
+    let part : (k : ℕ) × (k ≤ length c.args.out.now) × MadeAt (record { queues = c.args.self.now.queues.now.items; told = g.T.Tap.told c.args.self.now.tap.now; moves = c.args.self.now.moves; block = c.args.self.now.block; ins = c.args.self.now.ins.now; outs = c.args.self.now.outs.now }) (relayed c.args.from c.args.to (take k (waits_at (record { queues = c.args.self.now.queues.now.items; told = g.T.Tap.told c.args.self.now.tap.now; moves = c.args.self.now.moves; block = c.args.self.now.block; ins = c.args.self.now.ins.now; outs = c.args.self.now.outs.now }) c.args.from)) (take k c.args.out.now)) (record { queues = c.relay_one.new.self.queues.now.items; told = g.T.Tap.told c.relay_one.new.self.tap.now; moves = c.relay_one.new.self.moves; block = c.relay_one.new.self.block; ins = c.relay_one.new.self.ins.now; outs = c.relay_one.new.self.outs.now }) = (c.loop-i.i, l, made) in
+    always_err _ part

@@ -1,0 +1,164 @@
+//! The ends of the channels at one block's ports.
+
+ghost use Rattle.std.specs.Prelude.{◌≡◌, ◌<◌, ◌+◌, ◌-◌, ◌^◌, ℕ, [], ◌∷◌, true, min, refl, length, drop, set, slice_get, Some, false, IfOk, IfErr};
+ghost use Rattle.std.proofs.Common.{◌∙◌};
+ghost use Rattle.stream_tokens.specs.declared.Token.{Token as Tok};
+ghost use Rattle.block_core.specs.Move.{Taking, Putting};
+ghost use Rattle.plays.specs.Rest.{first_at, MayRelayOne, waits_at, FedAt, SameEnds, MadeAt, BurstAt, MayBurst};
+ghost use Rattle.plays.proofs.Rests.{same_none, same_then, made_none, made_then, fed_made, comes};
+
+use crate::at::{pop_at, push_at, unpush_at};
+use crate::queue::Queue;
+use crate::tap::Tap;
+use block_core::{BlockStep, Ports};
+use std::alloc::AllocError;
+use stream_tokens::Token;
+
+/// One event more, as far as the count goes.
+#[inline]
+fn one_more(moves: u64) -> u64
+    ensures { result ≡ min (moves + 1) (2 ^ 64 - 1) }
+{
+    moves.saturating_add(1)
+}
+
+/// The queues of all channels, with the rows of the channels at one block's ports.
+#[derive(Drop)]
+pub(crate) struct Ends<'a, T: Tap> {
+    pub(crate) queues: &'a mut Vec<Queue>,
+    pub(crate) tap: &'a mut T,
+    pub(crate) moves: u64,
+    pub(crate) block: usize,
+    pub(crate) ins: &'a [u32],
+    pub(crate) outs: &'a [u32],
+}
+
+impl<'a, T: Tap> Ends<'a, T> {
+    /// Takes the token that waits first at an input, and puts another on an output, where there is room.
+    #[inline]
+    fn relay_one(&mut self, from: u32, to: u32, t: Token) -> Result<bool, AllocError>
+        requires may { MayRelayOne (record { queues = self.old.queues.now.items; told = T.told self.old.tap.now; moves = self.old.moves; block = self.old.block; ins = self.old.ins.now; outs = self.old.outs.now }) from to t }
+        ensures same_queues { self.new.queues.ghost_name ≡ self.old.queues.ghost_name }
+        ensures same_tap { self.new.tap.ghost_name ≡ self.old.tap.ghost_name }
+        ensures same_ends { SameEnds (record { queues = self.old.queues.now.items; told = T.told self.old.tap.now; moves = self.old.moves; block = self.old.block; ins = self.old.ins.now; outs = self.old.outs.now }) (record { queues = self.new.queues.now.items; told = T.told self.new.tap.now; moves = self.new.moves; block = self.new.block; ins = self.new.ins.now; outs = self.new.outs.now }) }
+        ensures relayed { result ≡ Ok true → (u : Tok) → first_at (record { queues = self.old.queues.now.items; told = T.told self.old.tap.now; moves = self.old.moves; block = self.old.block; ins = self.old.ins.now; outs = self.old.outs.now }) from ≡ Some u → MadeAt (record { queues = self.old.queues.now.items; told = T.told self.old.tap.now; moves = self.old.moves; block = self.old.block; ins = self.old.ins.now; outs = self.old.outs.now }) (Taking from u ∷ Putting to t ∷ []) (record { queues = self.new.queues.now.items; told = T.told self.new.tap.now; moves = self.new.moves; block = self.new.block; ins = self.new.ins.now; outs = self.new.outs.now }) }
+        ensures left { result ≡ Ok true → waits_at (record { queues = self.new.queues.now.items; told = T.told self.new.tap.now; moves = self.new.moves; block = self.new.block; ins = self.new.ins.now; outs = self.new.outs.now }) from ≡ drop 1 (waits_at (record { queues = self.old.queues.now.items; told = T.told self.old.tap.now; moves = self.old.moves; block = self.old.block; ins = self.old.ins.now; outs = self.old.outs.now }) from) }
+        ensures full { result ≡ Ok false → MadeAt (record { queues = self.old.queues.now.items; told = T.told self.old.tap.now; moves = self.old.moves; block = self.old.block; ins = self.old.ins.now; outs = self.old.outs.now }) [] (record { queues = self.new.queues.now.items; told = T.told self.new.tap.now; moves = self.new.moves; block = self.new.block; ins = self.new.ins.now; outs = self.new.outs.now }) }
+        ensures refused { IfErr result (λ _. MadeAt (record { queues = self.old.queues.now.items; told = T.told self.old.tap.now; moves = self.old.moves; block = self.old.block; ins = self.old.ins.now; outs = self.old.outs.now }) [] (record { queues = self.new.queues.now.items; told = T.told self.new.tap.now; moves = self.new.moves; block = self.new.block; ins = self.new.ins.now; outs = self.new.outs.now })) }
+    {
+        let ins = self.ins;
+        let source = ins[from as usize] as usize;
+        let channel = self.outs[to as usize];
+        let place = channel as usize;
+        if self.queues[place].is_full() {
+            return Ok(false);
+        }
+        push_at(self.queues, place, t)?;
+        let told = self.tap.on_put(channel, t);
+        if let Err(error) = told {
+            unpush_at(self.queues, place);
+            return Err(error);
+        }
+        pop_at(self.queues, source);
+        self.moves = one_more(one_more(self.moves));
+        Ok(true)
+    }
+}
+
+impl<'a, T: Tap> Ports for Ends<'a, T> {
+    ghost fed = { λ v. FedAt (record { queues = v.queues.now.items; told = T.told v.tap.now; moves = v.moves; block = v.block; ins = v.ins.now; outs = v.outs.now }) };
+
+    ghost waits = { λ v. waits_at (record { queues = v.queues.now.items; told = T.told v.tap.now; moves = v.moves; block = v.block; ins = v.ins.now; outs = v.outs.now }) };
+
+    ghost same = { λ v w. (w.queues.ghost_name ≡ v.queues.ghost_name) × (w.tap.ghost_name ≡ v.tap.ghost_name) × SameEnds (record { queues = v.queues.now.items; told = T.told v.tap.now; moves = v.moves; block = v.block; ins = v.ins.now; outs = v.outs.now }) (record { queues = w.queues.now.items; told = T.told w.tap.now; moves = w.moves; block = w.block; ins = w.ins.now; outs = w.outs.now }) };
+
+    ghost did = { λ v ms w. MadeAt (record { queues = v.queues.now.items; told = T.told v.tap.now; moves = v.moves; block = v.block; ins = v.ins.now; outs = v.outs.now }) ms (record { queues = w.queues.now.items; told = T.told w.tap.now; moves = w.moves; block = w.block; ins = w.ins.now; outs = w.outs.now }) };
+
+    #[inline]
+    fn front(&self, port: u32) -> Option<Token> {
+        self.queues[self.ins[port as usize] as usize].front()
+    }
+
+    #[inline]
+    fn waiting(&self, port: u32) -> &[Token] {
+        self.queues[self.ins[port as usize] as usize].together()
+    }
+
+    #[inline]
+    fn relay(&mut self, from: u32, to: u32, out: &[Token]) -> Result<usize, AllocError> {
+        for i in 0..out.len() {
+            if !self.relay_one(from, to, out[i])? {
+                return Ok(i);
+            }
+        }
+        Ok(out.len())
+    }
+
+    #[inline]
+    fn pop(&mut self, port: u32) {
+        let ins = self.ins;
+        let place = ins[port as usize] as usize;
+        pop_at(self.queues, place);
+        self.moves = one_more(self.moves);
+    }
+
+    #[inline]
+    fn put(&mut self, port: u32, t: Token) -> Result<bool, AllocError> {
+        let channel = self.outs[port as usize];
+        let place = channel as usize;
+        if self.queues[place].is_full() {
+            return Ok(false);
+        }
+        push_at(self.queues, place, t)?;
+        let told = self.tap.on_put(channel, t);
+        if let Err(error) = told {
+            unpush_at(self.queues, place);
+            return Err(error);
+        }
+        self.moves = one_more(self.moves);
+        Ok(true)
+    }
+
+    ghost same_none = { λ v. (refl, refl, same_none _) };
+
+    ghost same_then = { λ u v w a b. (b.0 ∙ a.0, b.1 ∙ a.1, same_then _ _ _ a.2 b.2) };
+
+    ghost did_none = { λ v. made_none _ };
+
+    ghost did_then = { λ u v w xs ys a b. made_then _ _ _ xs ys a b };
+
+    ghost fed_after = { λ v w xs rest a f. fed_made _ _ xs rest a f };
+
+    ghost comes = { λ v port t rest f. comes _ port t rest f };
+}
+
+/// Some moves of one block of many, at most so many. The answer says whether there was one.
+pub(crate) fn burst_at<B: BlockStep, T: Tap>(
+    blocks: &mut Vec<B>,
+    queues: &mut Vec<Queue>,
+    moves: &mut u64,
+    tap: &mut T,
+    block: usize,
+    ins: &[u32],
+    outs: &[u32],
+    most: u32,
+) -> Result<bool, AllocError>
+    requires within { block < length blocks.old.items }
+    requires may { MayBurst B.kind B.stands blocks.old.items (record { queues = queues.old.items; told = T.told tap.old; moves = moves.old; block = block; ins = ins.now; outs = outs.now }) }
+    ensures same_length { length blocks.new.items ≡ length blocks.old.items }
+    ensures same_ends { SameEnds (record { queues = queues.old.items; told = T.told tap.old; moves = moves.old; block = block; ins = ins.now; outs = outs.now }) (record { queues = queues.new.items; told = T.told tap.new; moves = moves.new; block = block; ins = ins.now; outs = outs.now }) }
+    ensures poured { IfOk result (λ went. BurstAt B.kind B.stands blocks.old.items (record { queues = queues.old.items; told = T.told tap.old; moves = moves.old; block = block; ins = ins.now; outs = outs.now }) blocks.new.items (record { queues = queues.new.items; told = T.told tap.new; moves = moves.new; block = block; ins = ins.now; outs = outs.now }) went) }
+    ensures refused { IfErr result (λ _. BurstAt B.kind B.stands blocks.old.items (record { queues = queues.old.items; told = T.told tap.old; moves = moves.old; block = block; ins = ins.now; outs = outs.now }) blocks.new.items (record { queues = queues.new.items; told = T.told tap.new; moves = moves.new; block = block; ins = ins.now; outs = outs.now }) false) }
+{
+    let mut ends = Ends {
+        queues,
+        tap,
+        moves: *moves,
+        block,
+        ins,
+        outs,
+    };
+    let went = blocks[block].burst(&mut ends, most);
+    *moves = ends.moves;
+    went
+}
