@@ -1,9 +1,6 @@
 pub mod AcceptedPrograms
-pub mod AnswerLemmas
-pub mod OneRefusal
+pub mod CommandLemmas
 pub mod ReportLemmas
-pub mod ServedLemmas
-pub mod TensorLists
 pub mod UnboundedRuns
 pub mod WrittenResults
 mod Worked

@@ -1,22 +1,21 @@
 -- Words, by hand.
-use Rattle.std.proofs.Common.{◌≡◌, [], ◌∷◌, Some, None, refl, codes}
+use Rattle.std.proofs.Common.{◌≡◌, [], ◌∷◌, refl, codes}
+use Rattle.std.specs.Prelude.{Ok, Err}
+use Rattle.sam_base.specs.declared.faults.Fault.TheVariants.{Usage}
 use Rattle.sam_cmd.specs.declared.command.Command.TheVariants.{Check, Step}
-use Rattle.sam_cmd.specs.Commands.{command_of, file_of}
+use Rattle.sam_cmd.specs.Commands.{asked_command}
 
-checks : command_of (codes "check" ∷ codes "p.sam" ∷ []) ≡ Some (Check (codes "p.sam"))
+checks : asked_command (codes "check" ∷ codes "p.sam" ∷ []) ≡ Ok (Check (codes "p.sam"))
 checks = refl
 
-steps : command_of (codes "step" ∷ codes "p.sam" ∷ []) ≡ Some (Step (codes "p.sam"))
+steps : asked_command (codes "step" ∷ codes "p.sam" ∷ []) ≡ Ok (Step (codes "p.sam"))
 steps = refl
 
-no_file_name : command_of (codes "step" ∷ []) ≡ None
+no_file_name : asked_command (codes "step" ∷ []) ≡ Err Usage
 no_file_name = refl
 
-no_such_command : command_of (codes "steps" ∷ codes "p.sam" ∷ []) ≡ None
+no_such_command : asked_command (codes "steps" ∷ codes "p.sam" ∷ []) ≡ Err Usage
 no_such_command = refl
 
-a_word_more : command_of (codes "check" ∷ codes "p.sam" ∷ codes "q.sam" ∷ []) ≡ None
+a_word_more : asked_command (codes "check" ∷ codes "p.sam" ∷ codes "q.sam" ∷ []) ≡ Err Usage
 a_word_more = refl
-
-file : file_of (Step (codes "p.sam")) ≡ codes "p.sam"
-file = refl

@@ -18,7 +18,7 @@ use Rattle.graph.specs.WholeStreams.{Consistent}
 use Rattle.graph.specs.Assembly.{InRange}
 use Rattle.graph.specs.Writers.{written_listing}
 use Rattle.custard_lower.specs.Lowered.{Carries, Lowered, storages_of, written_of}
-use Rattle.sam_cmd.specs.Steps.{AreStored}
+use Rattle.inputs.specs.Tensors.{AreStored}
 
 -- ---- the entries of a result
 
@@ -57,7 +57,7 @@ entries_within p es =
 
 -- ---- the graph of a program over its stored tensors
 
-module _ (p : Program) (g : Graph) (lowered : Lowered p g) (es : List Entries) (stored : List Ranked) (are : AreStored p es stored) where
+module _ (p : Program) (g : Graph) (lowered : Lowered p g) (es : List Entries) (stored : List Ranked) (are : AreStored p.tensors es stored) where
   carries : Carries p g es
   carries = lowered.carries es are.each
 

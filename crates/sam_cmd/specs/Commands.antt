@@ -1,31 +1,33 @@
--- The commands, and the words that ask for them.
-use Rattle.std.specs.Prelude.{◌≡◌, ℕ, cond, List, [], ◌∷◌, codes, nat_eq, Option, Some, None, Result, Ok, Err}
+-- The commands as chains of parts: what each answers, in the order in which it may be refused.
+use Rattle.std.specs.Prelude.{◌≡◌, ◌*◌, ℕ, cond, true, List, [], ◌∷◌, codes, nat_eq, Option, Some, None, Result, Ok, Err}
 use Rattle.std.specs.Cmp.Lexicographic.{pointwise}
 use Rattle.sam_base.specs.declared.faults.Fault.{Fault}
-use Rattle.sam_base.specs.declared.faults.Fault.TheVariants.{Usage, OutOfMemory}
+use Rattle.sam_base.specs.declared.faults.Fault.TheVariants.{Usage}
+use Rattle.sam_model.specs.ResultText.{result_text}
+use Rattle.parts.specs.Parts.{Part, gives, followed, each_part}
+use Rattle.inputs.specs.Programs.{program_part}
+use Rattle.inputs.specs.Tensors.{tensor_part}
 use Rattle.sam_cmd.specs.declared.command.Command.{Command}
 use Rattle.sam_cmd.specs.declared.command.Command.TheVariants.{Check, Step}
 
 -- a command by its word
-abbrev pub named_command : List ℕ → List ℕ → Option Command
+abbrev pub named_command : List ℕ → List ℕ → Result Command Fault
 named_command word name =
-    cond (pointwise nat_eq word (codes "check")) (Some (Check name)) (cond (pointwise nat_eq word (codes "step")) (Some (Step name)) None)
+    cond (pointwise nat_eq word (codes "check")) (Ok (Check name)) (cond (pointwise nat_eq word (codes "step")) (Ok (Step name)) (Err Usage))
 
 -- the command that the words ask for
-abbrev pub command_of : List (List ℕ) → Option Command
-command_of [] = None
-command_of (word ∷ []) = None
-command_of (word ∷ name ∷ []) = named_command word name
-command_of (word ∷ name ∷ other ∷ more) = None
+abbrev pub asked_command : List (List ℕ) → Result Command Fault
+asked_command (word ∷ name ∷ []) = named_command word name
+asked_command _ = Err Usage
 
--- the program file of a command
-abbrev pub file_of : Command → List ℕ
-file_of (Check name) = name
-file_of (Step name) = name
+-- the text of a command
+abbrev pub text_part : Command → Part (List ℕ)
+text_part (Check name) = followed (program_part name) (λ p. gives (Ok (codes "accepted\n")))
+text_part (Step name) =
+    followed (program_part name) (λ p.
+    followed (each_part tensor_part p.tensors) (λ entries.
+    gives (Ok (result_text p entries))))
 
--- the command was read, or there is none
-abbrev pub ReadsCommand : List (List ℕ) → Result Command Fault → Type 0
-ReadsCommand words (Ok command) = command_of words ≡ Some command
-ReadsCommand words (Err Usage) = command_of words ≡ None
-ReadsCommand words (Err OutOfMemory) = Unit {0}
-ReadsCommand words (Err _) = ⊥
+-- what the words answer
+abbrev pub answer_part : List (List ℕ) → Part (List ℕ)
+answer_part words = followed (gives (asked_command words)) text_part

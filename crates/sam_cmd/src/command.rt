@@ -1,7 +1,9 @@
 //! The words of a command.
 
 ghost use Rattle.std.specs.Prelude.{map, string_bytes};
-ghost use Rattle.sam_cmd.specs.Commands.{ReadsCommand};
+ghost use Rattle.parts.specs.Parts.{gives};
+ghost use Rattle.parts.specs.Answers.{ComesAlways};
+ghost use Rattle.sam_cmd.specs.Commands.{asked_command};
 
 use sam_base::{Fault, Name};
 use std::alloc::Global;
@@ -17,7 +19,7 @@ pub enum Command {
 
 /// The command that the words ask for.
 pub fn command_of(alloc: Global, words: &[String]) -> Result<Command, Fault>
-    ensures { ReadsCommand (map string_bytes words.now) result }
+    ensures { ComesAlways (gives (asked_command (map string_bytes words.now))) result }
 {
     if words.len() != 2 {
         return Err(Fault::Usage);

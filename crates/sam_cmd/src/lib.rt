@@ -5,15 +5,13 @@
 #![tactic(auto)]
 
 ghost use Rattle.std.specs.Prelude.{◌≡◌, ◌≢◌, map, string_bytes};
-ghost use Rattle.sam_cmd.specs.Answers.{Answered, Complete, Exact};
+ghost use Rattle.sam_io.specs.Spans.{files_span, sink_span};
+ghost use Rattle.sam_cmd.specs.Answers.{Answered};
 
 mod answer;
 mod command;
-mod inputs;
 mod report;
 mod run;
-#[cfg(test)]
-mod tests;
 
 use answer::answer;
 use report::{report, say};
@@ -32,63 +30,9 @@ pub fn sam_serial<F: Files, O: Sink, E: Sink>(
     out: &mut O,
     err: &mut E,
 ) -> u8
-    ensures answered { Answered (map string_bytes words.now)
-        (record {
-          told = F.told files.old;
-          faults_before = F.faults files.old;
-          faults_now = F.faults files.new;
-          misses_before = F.misses files.old;
-          misses_now = F.misses files.new;
-        })
-        (record {
-          before = O.written out.old;
-          now = O.written out.new;
-          faults_before = O.faults out.old;
-          faults_now = O.faults out.new;
-        })
-        (record {
-          before = E.written err.old;
-          now = E.written err.new;
-          faults_before = E.faults err.old;
-          faults_now = E.faults err.new;
-        })
-        result }
-    ensures complete { Complete (map string_bytes words.now)
-        (record {
-          told = F.told files.old;
-          faults_before = F.faults files.old;
-          faults_now = F.faults files.new;
-          misses_before = F.misses files.old;
-          misses_now = F.misses files.new;
-        })
-        (record {
-          before = O.written out.old;
-          now = O.written out.new;
-          faults_before = O.faults out.old;
-          faults_now = O.faults out.new;
-        })
-        result }
-    ensures exact { Exact (map string_bytes words.now)
-        (record {
-          told = F.told files.old;
-          faults_before = F.faults files.old;
-          faults_now = F.faults files.new;
-          misses_before = F.misses files.old;
-          misses_now = F.misses files.new;
-        })
-        (record {
-          before = O.written out.old;
-          now = O.written out.new;
-          faults_before = O.faults out.old;
-          faults_now = O.faults out.new;
-        })
-        (record {
-          before = E.written err.old;
-          now = E.written err.new;
-          faults_before = E.faults err.old;
-          faults_now = E.faults err.new;
-        })
-        result }
+    ensures answered { Answered (map string_bytes words.now) (files_span F.Files files.old files.new)
+        (sink_span O.Sink out.old out.new) (sink_span E.Sink err.old err.new) result }
+
     // no call at all was made on them, and not only nothing written
     ensures quiet { result ≡ 0 → err.new ≡ err.old }
     ensures untouched { result ≢ 0 → result ≢ 7 → out.new ≡ out.old }

@@ -1,6 +1,7 @@
 //! What is said of a fault on standard error.
 
 ghost use Rattle.std.specs.Prelude.{◌≡◌};
+ghost use Rattle.sam_io.specs.Spans.{sink_span};
 ghost use Rattle.sam_cmd.specs.Answers.{Said, ReportsFault};
 
 use sam_base::{Fault, fault_text, status};
@@ -9,28 +10,14 @@ use std::alloc::Global;
 
 /// Writes a text; that it can't be written changes no answer.
 pub fn say<E: Sink>(err: &mut E, text: &[u8])
-    ensures { Said
-        (record {
-          before = E.written err.old;
-          now = E.written err.new;
-          faults_before = E.faults err.old;
-          faults_now = E.faults err.new;
-        })
-        text.now }
+    ensures { Said (sink_span E.Sink err.old err.new) text.now }
 {
     let _ = write_whole(err, text);
 }
 
 /// Says the fault, or that there is no memory for its text, and answers the exit status.
 pub fn report<E: Sink>(alloc: Global, fault: &Fault, err: &mut E) -> u8
-    ensures { ReportsFault fault.now
-        (record {
-          before = E.written err.old;
-          now = E.written err.new;
-          faults_before = E.faults err.old;
-          faults_now = E.faults err.new;
-        })
-        result }
+    ensures { ReportsFault fault.now (sink_span E.Sink err.old err.new) result }
 {
     match fault_text(alloc, fault) {
         Ok(text) => {

@@ -8,7 +8,7 @@ ghost use Rattle.graph.specs.Wiring.{WellFormed};
 ghost use Rattle.graph.specs.WholeStreams.{Consistent};
 ghost use Rattle.graph.specs.Assembly.{InRange, FewPayloads};
 ghost use Rattle.graph.specs.Writers.{written_listing};
-ghost use Rattle.sam_cmd.specs.Steps.{AreStored};
+ghost use Rattle.inputs.specs.Tensors.{AreStored};
 
 use any_block::{assemble, gather};
 use custard_lower::lower;
@@ -52,8 +52,8 @@ fn run(alloc: Global, g: &Graph, storages: &[Storage], levels: u8) -> Result<Wri
 /// The text of the tensor that a program denotes, from its tensors as they are stored.
 pub fn run_text(alloc: Global, p: &Program, storages: &[Storage]) -> Result<Name, AllocError>
     requires accepted { accepted p.now ≡ true }
-    requires stored { (entries : List Entries) × AreStored p.now entries storages.now }
-    ensures { (entries : List Entries) → AreStored p.now entries storages.now → IfOk result (λ text. text ≡ denoted_text p.now entries) }
+    requires stored { (entries : List Entries) × AreStored p.now.tensors entries storages.now }
+    ensures { (entries : List Entries) → AreStored p.now.tensors entries storages.now → IfOk result (λ text. text ≡ denoted_text p.now entries) }
 {
     let graph = lower(alloc, p)?;
     let written = run(alloc, &graph, storages, p.result.order.len() as u8)?;

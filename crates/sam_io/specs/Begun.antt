@@ -3,6 +3,6 @@ use Rattle.std.specs.Prelude.{Option, Some, None}
 use Rattle.sam_io.specs.Outside.{Place}
 use Rattle.sam_io.specs.declared.system.Begun.{Begun}
 
-abbrev pub place_of : {F : Type 0} → Option (Begun F) → Place
-place_of None = None
-place_of (Some begun) = Some (begun.name.value, begun.given)
+abbrev pub begun_place : {F : Type 0} → Option (Begun F) → Place
+begun_place None = None
+begun_place (Some begun) = Some (begun.name.value, begun.given)

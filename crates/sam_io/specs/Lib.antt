@@ -3,3 +3,4 @@ pub mod Found
 pub mod Held
 pub mod Opening
 pub mod Outside
+pub mod Spans

@@ -9,8 +9,6 @@
 mod memory;
 mod outside;
 mod system;
-#[cfg(test)]
-mod tests;
 mod whole;
 
 pub use memory::{MemFiles, MemSink};

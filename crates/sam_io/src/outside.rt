@@ -42,7 +42,11 @@ pub trait Files {
         ensures missing { result ≡ Ok Opened.Missing → Rose (misses self.old) (misses self.new) }
         ensures lacks { result ≡ Ok Opened.Missing → Lacks (told self.old) name.now }
         ensures found { result ≡ Ok Opened.Found → NoneLacks (told self.old) name.now }
-        ensures begun { place self.new ≡ place_after name.now result };
+        ensures begun { place self.new ≡ place_after name.now result }
+
+        // want of memory is counted neither as a fault nor as a miss
+        ensures memory_faults { result ≡ Ok Opened.OutOfMemory → faults self.new ≡ faults self.old }
+        ensures memory_misses { result ≡ Ok Opened.OutOfMemory → misses self.new ≡ misses self.old };
 
     /// Gives the next bytes of the begun file: at least one, and 0 exactly at its end.
     fn next(&mut self, buf: &mut [u8]) -> Result<usize, Failed>

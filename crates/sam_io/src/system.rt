@@ -1,8 +1,10 @@
 //! The real files and the standard streams. They tell nothing of content, and are proved against
 //! the counts alone: what a file or a terminal holds is the system's.
 
-ghost use Rattle.std.specs.Prelude.{◌≡◌, ◌+◌, ◌≤◌, None, Ok, Err, IfOk, OnErr, length};
+ghost use Rattle.std.specs.Prelude.{◌≡◌, ◌+◌, ◌<◌, ◌≤◌, None, Ok, Err, IfOk, OnOk, OnErr, length};
 ghost use Rattle.std.specs.Io.{ReadsAtMost};
+ghost use Rattle.sam_base.specs.Causes.{HasCause};
+ghost use Rattle.sam_io.specs.Outside.{advanced};
 
 use crate::outside::{Failed, Files, Opened, Sink};
 use sam_base::Name;
@@ -56,9 +58,9 @@ impl<R: FileSystem> Model for SysFiles<R> {
 
     ghost Value = { CountedFiles };
 
-    ghost use Rattle.sam_io.specs.Begun.{place_of};
+    ghost use Rattle.sam_io.specs.Begun.{begun_place};
 
-    ghost view = { λ s. record { place = place_of s.begun; faults = s.faults; misses = s.misses } };
+    ghost view = { λ s. record { place = begun_place s.begun; faults = s.faults; misses = s.misses } };
 }
 
 impl<R: FileSystem> SysFiles<R> {
@@ -112,7 +114,19 @@ impl<R: FileSystem + Drop> Files for SysFiles<R> {
         }
     }
 
-    fn next(&mut self, buf: &mut [u8]) -> Result<usize, Failed> {
+    fn next(&mut self, buf: &mut [u8]) -> Result<usize, Failed>
+        requires { 0 < length buf.old }
+        ensures unbegun { self.old.place ≡ None → result ≡ Ok 0 }
+
+        // as of all files
+        ensures cause { HasCause self.old.faults self.new.faults result }
+        ensures later { self.old.misses ≤ self.new.misses }
+        ensures bound { ReadsAtMost result buf.new }
+        ensures moved { self.new.place ≡ advanced self.old.place result }
+        ensures idle_buf { self.old.place ≡ None → OnOk result (buf.new ≡ buf.old) }
+        ensures idle_faults { self.old.place ≡ None → OnOk result (self.new.faults ≡ self.old.faults) }
+        ensures idle_misses { self.old.place ≡ None → OnOk result (self.new.misses ≡ self.old.misses) }
+    {
         let Some(mut begun) = self.begun.take() else {
             return Ok(0);
         };

@@ -3,6 +3,7 @@
 ghost use Rattle.std.specs.Prelude.{◌≡◌, ℕ, ◌+◌, ◌<◌, ◌≤◌, ◌⊎◌, [], Some, length, IfOk, OnOk, OnErr, IsErrOf};
 ghost use Rattle.sam_base.specs.Causes.{Rose, HasCause};
 ghost use Rattle.sam_io.specs.Outside.{Place, NoneLacks, Lacks, Tells, grown, GrewByPart, LongerThan, IsAt};
+ghost use Rattle.sam_io.specs.Spans.{KeepsFiles};
 
 use crate::outside::{Failed, Files, Opened, Sink};
 use sam_base::{FILE_MOST, Name};
@@ -29,7 +30,7 @@ pub enum ReadEnd {
 ///
 /// `TooLong` comes exactly when one byte more was read than a file may have.
 pub fn read_whole<F: Files>(alloc: Global, files: &mut F, name: &Name) -> Result<Name, ReadEnd>
-    ensures same { F.told files.new ≡ F.told files.old }
+    ensures keeps { KeepsFiles F.Files files.old files.new }
     ensures read { IfOk result (λ text. Tells (F.told files.old) name.now text) }
     ensures short { IfOk result (λ text. length text ≤ FILE_MOST) }
     ensures at_end { IfOk result (λ text. F.place files.new ≡ Some (name.now, length text)) }
@@ -44,9 +45,6 @@ pub fn read_whole<F: Files>(alloc: Global, files: &mut F, name: &Name) -> Result
     // want of memory may come at any byte
     ensures only_long { F.place files.new ≡ Some (name.now, FILE_MOST + 1) →
         IsErrOf result ReadEnd.TooLong ⊎ IsErrOf result ReadEnd.OutOfMemory }
-
-    ensures faults { F.faults files.old ≤ F.faults files.new }
-    ensures misses { F.misses files.old ≤ F.misses files.new }
 {
     match files.begin(name) {
         Err(_) => Err(ReadEnd::Failed),
@@ -60,7 +58,7 @@ pub fn read_whole<F: Files>(alloc: Global, files: &mut F, name: &Name) -> Result
 fn read_begun<F: Files>(alloc: Global, files: &mut F, name: &Name) -> Result<Name, ReadEnd>
     requires begun { F.place files.old ≡ Some (name.now, 0) }
     requires found { NoneLacks (F.told files.old) name.now }
-    ensures same { F.told files.new ≡ F.told files.old }
+    ensures keeps { KeepsFiles F.Files files.old files.new }
     ensures read { IfOk result (λ text. Tells (F.told files.old) name.now text) }
     ensures short { IfOk result (λ text. length text ≤ FILE_MOST) }
     ensures at_end { IfOk result (λ text. F.place files.new ≡ Some (name.now, length text)) }
@@ -71,8 +69,6 @@ fn read_begun<F: Files>(alloc: Global, files: &mut F, name: &Name) -> Result<Nam
     ensures over { IsErrOf result ReadEnd.TooLong → LongerThan (F.told files.old) name.now FILE_MOST }
     ensures only_long { F.place files.new ≡ Some (name.now, FILE_MOST + 1) →
         IsErrOf result ReadEnd.TooLong ⊎ IsErrOf result ReadEnd.OutOfMemory }
-    ensures faults { F.faults files.old ≤ F.faults files.new }
-    ensures misses { F.misses files.old ≤ F.misses files.new }
 {
     let mut text = Name::new(alloc);
     let mut buf = [0u8; PIECE];

@@ -1,0 +1,27 @@
+-- The program of a program file, as a part.
+use Rattle.std.specs.Prelude.{◌≡◌, true, ℕ, List, Option, Some, None, Result, Ok, Err}
+use Rattle.sam_base.specs.declared.faults.Fault.{Fault}
+use Rattle.sam_base.specs.declared.faults.Fault.TheVariants as fault
+use Rattle.sam_base.specs.declared.faults.ProgramKind.TheVariants.{FileTooLong}
+use Rattle.sam_model.specs.declared.program.Program.{Program}
+use Rattle.sam_model.specs.Accepted.{accepted}
+use Rattle.program_file.specs.Refusals.{Refusal}
+use Rattle.program_file.specs.Programs.{reading}
+use Rattle.parts.specs.Parts.{Part, gives, followed, reads}
+
+-- a program, or the first fault of its file
+abbrev pub with_program_fault : Result Program Refusal → Result Program Fault
+with_program_fault (Ok p) = Ok p
+with_program_fault (Err refusal) = Err (fault.Program refusal.kind refusal.line)
+
+-- the program that a file spells; none are the bytes of a file that is too long
+abbrev pub program_in : Option (List ℕ) → Result Program Fault
+program_in None = Err (fault.Program FileTooLong 0)
+program_in (Some bytes) = with_program_fault (reading bytes)
+
+-- a program that is accepted
+abbrev pub accepts : Program → Part Program
+accepts p told answer = (answer ≡ Ok p) × (accepted p ≡ true)
+
+abbrev pub program_part : List ℕ → Part Program
+program_part name = followed (reads name) (λ text. followed (gives (program_in text)) accepts)
