@@ -2,10 +2,10 @@
 use Rattle.std.specs.Prelude.{◌≡◌, ◌<◌, ℕ, true, List, [], ◌∷◌, length}
 use mathlib.Core.List.{map}
 use Rattle.std.proofs.Common.{arith, sym, ◌∙◌, ap, subst}
+use Rattle.std.proofs.lemmas.List.{length-map}
 use Rattle.sam_model.specs.Lists.{within}
 use Rattle.sam_model.specs.Tensors.{Stored, is_stored, stored_prefixes, value_at}
 use Rattle.sam_model.specs.Children.{Ranked, ranked, values_of}
-use Rattle.levels.proofs.Levels.{length-mapped}
 use Rattle.stream_tokens.specs.declared.Token.{Token}
 use Rattle.stream_tokens.specs.declared.Token.TheVariants.{Item}
 use Rattle.stream_tokens.specs.Nest.{IsStream}
@@ -45,7 +45,7 @@ module _ (t : TermData) (f : ℕ) (fit : AllFit t) (inside : f < length t.access
     place_full : length place ≡ length tensor.sizes
     place_full =
         keep-length (access_at t.accesses f).has p
-        ∙ ap (levels_before (access_at t.accesses f).has) (h.count ∙ sym (length-mapped (λ l. l.0) t.loops))
+        ∙ ap (levels_before (access_at t.accesses f).has) (h.count ∙ sym (length-map t.loops (λ l. l.0)))
         ∙ sym (keep-length (access_at t.accesses f).has (loop_sizes t.loops))
         ∙ ap (λ (sizes : List ℕ). length sizes) (fit f inside)
 
@@ -57,7 +57,7 @@ module _ (t : TermData) (f : ℕ) (fit : AllFit t) (inside : f < length t.access
         let r : rank_at t f p < length (stored_prefixes tensor (length place)) =
         rank-below tensor place place_within place_stored in
         let n : length (values_of tensor) ≡ length (stored_prefixes tensor (length place)) =
-        ap (λ (vs : List ℕ). length vs) values_there ∙ length-mapped (value_at tensor) (stored_prefixes tensor (length place)) in
+        ap (λ (vs : List ℕ). length vs) values_there ∙ length-map (stored_prefixes tensor (length place)) (value_at tensor) in
         omega (arith, r, n)
 
     value_there : value_in (values_of tensor) (rank_at t f p) ≡ factor_at t f p

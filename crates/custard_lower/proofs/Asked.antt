@@ -9,7 +9,7 @@ use Rattle.stream_tokens.specs.Shapes.{Each}
 use Rattle.stream_model.specs.Terms.{TermData, access_at}
 use Rattle.stream_model.specs.Labels.{bits}
 use Rattle.stream_model.specs.Masks.{final}
-use Rattle.stream_model.proofs.Lists.{filter-range}
+use Rattle.sam_model.proofs.Lists.{filter-range}
 use Rattle.stream_model.proofs.Numbers.{AllBelow}
 use Rattle.stream_model.proofs.Depths.{filter-short, is_in-filter}
 use Rattle.custard_lower.specs.declared.plans.Plan.{Plan}

@@ -6,7 +6,6 @@ use mathlib.Core.List.{map}
 use Rattle.std.proofs.Common.{arith, sym, ◌∙◌, ap}
 use Rattle.std.proofs.lemmas.Bool.{and_parts}
 use Rattle.std.proofs.lemmas.List.{length_push}
-use Rattle.levels.proofs.Maps.{filter-map}
 use Rattle.sam_model.specs.Lists.{below}
 use Rattle.stream_tokens.specs.declared.Token.TheVariants.{Item}
 use Rattle.stream_tokens.specs.Nest.{Leaf, Fiber}
@@ -18,7 +17,7 @@ use Rattle.stream_model.specs.Grow.{next, path_fibers}
 use Rattle.stream_model.specs.Terms.{TermData}
 use Rattle.stream_model.specs.Trees.{in_reduced, value_reduced, reduced_sizes, begins_value, in_pruned}
 use Rattle.stream_model.specs.Labels.{last, reduced_shape, stream_at}
-use Rattle.stream_model.proofs.Lists.{and-false, filter-ext, list_any-ext}
+use Rattle.sam_model.proofs.Lists.{and-false, filter-ext, list_any-ext, filter-map}
 use Rattle.stream_model.proofs.Grown.{InTree, paths-InTree}
 use Rattle.stream_model.proofs.Pruned.{early-test, late-test, begins-next, begins-full, paths-unpruned}
 use Rattle.stream_model.proofs.Sides.{pruned-root}

@@ -19,9 +19,10 @@ use Rattle.stream_model.specs.Grow.{next, path_fibers}
 use Rattle.stream_model.specs.Terms.{Summand}
 use Rattle.stream_model.specs.Joins.{Part, joined, side_part}
 use Rattle.stream_model.specs.Labels.{Shape, last, token, joined_shape, beside_shape, stream_at}
-use Rattle.stream_model.proofs.Lists.{Each-range, map-ext, map-ext-each, filter-none}
+use Rattle.sam_model.proofs.Lists.{Each-range, map-ext, map-ext-each, filter-none}
 use Rattle.stream_model.proofs.Grown.{InTree, each-next, under-same, tokens-suc, paths-InTree}
-use Rattle.stream_model.proofs.Flat.{ClosedUnder, tuples-long, flat-paths}
+use Rattle.sam_model.proofs.Tuples.{tuples-long}
+use Rattle.stream_model.proofs.Flat.{ClosedUnder, flat-paths}
 use Rattle.stream_model.proofs.Sides.{beside-tokens}
 use Rattle.stream_model.proofs.Results.{EachSized, join-closed}
 use Rattle.stream_model.proofs.Streams.{stream_at-flat, stream_at-IsStream}

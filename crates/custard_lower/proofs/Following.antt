@@ -12,7 +12,7 @@ use Rattle.stream_tokens.proofs.Algebra.{map-same, flat-on_tokens}
 use Rattle.stream_model.specs.declared.labels.Attr.TheVariants.{Coordinate, Value}
 use Rattle.stream_model.specs.Grow.{next, paths, path_fibers}
 use Rattle.stream_model.specs.Labels.{Shape, last, stream_at}
-use Rattle.stream_model.proofs.Lists.{map-ext}
+use Rattle.sam_model.proofs.Lists.{map-ext}
 use Rattle.stream_model.proofs.Grown.{under-same, tokens-suc}
 use Rattle.block_core.specs.Ports.{Streams, AllStreams, first_item, second_leaf}
 use Rattle.block_core.specs.Kind.{Kind}

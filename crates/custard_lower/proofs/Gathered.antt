@@ -7,8 +7,7 @@ use Rattle.std.proofs.lemmas.Bool.Decides.{nat_tests}
 use Rattle.std.proofs.lemmas.Bool.{cases_lt}
 use Rattle.sam_model.specs.Lists.{below}
 use Rattle.stream_tokens.specs.Shapes.{Each}
-use Rattle.stream_model.proofs.Lists.{Each-range, Each-map, Each-flat_map, Each-always, filter-range, list_any-flat_map, list_any-ext, map-ext}
-use Rattle.levels.proofs.Maps.{filter-none}
+use Rattle.sam_model.proofs.Lists.{Each-range, Each-map, Each-flat_map, Each-always, filter-range, list_any-flat_map, list_any-ext, map-ext, filter-never}
 use Rattle.block_core.specs.Gather.{add_at, gather}
 
 -- ---- tests of numbers
@@ -168,7 +167,7 @@ module _ {V : Type 0} (add : V → V → V) (none : V) where
   -- Of elements with coordinates in a range, those that occur are gathered, ascending, with their sums.
   pub gather-range : ((v : V) → add v none ≡ v) → (a n : ℕ) (ps : List (ℕ × V)) → InRange a n ps
       → gather add ps ≡ listed (occurs ps) (total_at add none ps) (range_with_len a n)
-  gather-range right a n [] h = sym (ap (paired (λ x. none)) (filter-none (λ x. false) (λ x. refl) (range_with_len a n)))
+  gather-range right a n [] h = sym (ap (paired (λ x. none)) (filter-never (λ x. false) (λ x. refl) (range_with_len a n)))
   gather-range right a n (p ∷ ps) h =
       ap (add_at add p.0 p.1) (gather-range right a n ps h.1)
       ∙ added add (occurs ps) (total_at add none ps) p.0 p.1 none (right p.1) (total-absent ps) a n h.0.0 h.0.1

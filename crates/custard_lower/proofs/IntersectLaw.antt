@@ -19,7 +19,7 @@ use Rattle.stream_model.specs.Terms.{TermData}
 use Rattle.stream_model.specs.Trees.{all_admit, in_product}
 use Rattle.stream_model.specs.Labels.{loop_sizes, product_shape, last}
 use Rattle.stream_model.specs.Masks.{any_of}
-use Rattle.stream_model.proofs.Lists.{Each-always, Each-map, map-ext, filter-ext}
+use Rattle.sam_model.proofs.Lists.{Each-always, Each-map, map-ext, filter-ext}
 use Rattle.stream_model.proofs.Grown.{EachToken-always, under-same}
 use Rattle.stream_model.proofs.Masks.{all_admit-any_of}
 use Rattle.stream_model.proofs.Products.{product-tokens}

@@ -18,7 +18,7 @@ use Rattle.stream_model.specs.Terms.{TermData, Summand, no_summand, summand_at}
 use Rattle.stream_model.specs.Trees.{free_count, reduced_sizes, in_term, value_term}
 use Rattle.stream_model.specs.Joins.{Part, negated, signed, join_of, joined, side_part, in_beside}
 use Rattle.stream_model.specs.Labels.{Shape, last, reduced_shape, joined_shape, beside_shape, stream_at}
-use Rattle.stream_model.proofs.Lists.{or-false, list_any-ext-each, list_any-map}
+use Rattle.sam_model.proofs.Lists.{or-false, list_any-ext-each, list_any-map}
 use Rattle.stream_model.proofs.Grown.{tokens-suc}
 use Rattle.stream_model.proofs.Flat.{ClosedUnder}
 use Rattle.stream_model.proofs.Sums.{plus-none, is_some-sum}

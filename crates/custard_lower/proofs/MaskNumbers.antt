@@ -11,7 +11,7 @@ use Rattle.stream_model.specs.Labels.{bits}
 use Rattle.stream_model.specs.Masks.{only, any_of, final}
 use Rattle.stream_model.proofs.Masks.{length-only, bit-only, length-any_of, bit-any_of, mask-ext, bit-final, length-final}
 use Rattle.stream_model.proofs.Numbers.{length-bits, bits-only, bits-any_of, AllBelow, turned}
-use Rattle.stream_model.proofs.Lists.{or-false}
+use Rattle.sam_model.proofs.Lists.{or-false}
 use Rattle.custard_lower.specs.Masks.{mask_with, mask_number}
 
 bit_with : (n mask : ℕ) (fs : List ℕ) (g : ℕ) → AllBelow n fs

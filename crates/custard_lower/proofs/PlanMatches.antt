@@ -21,7 +21,7 @@ use Rattle.sam_model.specs.Denote.{has_var, loops_of, Loop, loop_list, tensor_at
 use Rattle.sam_model.specs.Accepted.{is_access, is_operand, is_well_formed, tensor_passes, access_fits, factor_fits, term_has, factor_reduces, term_fits, accepted}
 use Rattle.stream_model.specs.Terms.{Operand, access_at, keep, mask_of, operands_of, literals_of, coefficient_of, term_data}
 use Rattle.stream_model.specs.Labels.{loop_sizes}
-use Rattle.stream_model.proofs.Lists.{filter-range}
+use Rattle.sam_model.proofs.Lists.{filter-range}
 use Rattle.stream_model.proofs.Places.{accepted-operands, declared-at, term-fit}
 use Rattle.stream_model.proofs.Depths.{term-few, term-shallow}
 use Rattle.graph.specs.Meaning.{stored_at}

@@ -19,7 +19,7 @@ use Rattle.stream_model.specs.Terms.{TermData, restricted, access_at}
 use Rattle.stream_model.specs.Trees.{all_admit, in_product, in_whole}
 use Rattle.stream_model.specs.Labels.{Shape, loop_sizes, product_shape, last, token, stream_at}
 use Rattle.stream_model.specs.Masks.{final}
-use Rattle.stream_model.proofs.Lists.{map-ext}
+use Rattle.sam_model.proofs.Lists.{map-ext}
 use Rattle.stream_model.proofs.Grown.{InTree, under-same, paths-InTree}
 use Rattle.stream_model.proofs.Products.{paths-final, product-tokens}
 use Rattle.stream_model.proofs.Streams.{stream_at-flat}

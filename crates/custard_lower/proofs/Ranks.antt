@@ -10,10 +10,10 @@ use Rattle.std.proofs.lemmas.List.FromFn.{length-range_with_len, get_or-range_wi
 use Rattle.std.proofs.lemmas.Map.Views.{any-filter_same}
 use Rattle.sam_model.specs.Lists.{below, tuples, same_list, smaller, within}
 use Rattle.sam_model.specs.Tensors.{Stored, is_stored, stored_prefixes, rank_of}
-use Rattle.levels.specs.Each.{Each}
+use Rattle.sam_base.specs.Each.{Each}
 use Rattle.levels.proofs.Orders.{eqb-same, same_list-true}
 use Rattle.levels.proofs.Ascending.{Ascending, prefixes-ascend, rank_in, rank-at}
-use Rattle.stream_model.proofs.Lists.{list_any-ext, list_any-map, list_any-flat_map}
+use Rattle.sam_model.proofs.Lists.{list_any-ext, list_any-map, list_any-flat_map}
 
 -- whether q is one of them
 abbrev listed : List ℕ → List (List ℕ) → Bool

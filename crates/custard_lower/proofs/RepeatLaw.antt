@@ -16,7 +16,7 @@ use Rattle.stream_model.specs.declared.labels.Attr.TheVariants.{Coordinate, Rank
 use Rattle.stream_model.specs.Terms.{TermData, access_at}
 use Rattle.stream_model.specs.Labels.{loop_sizes, product_shape, token}
 use Rattle.stream_model.specs.Masks.{final}
-use Rattle.stream_model.proofs.Lists.{map-ext}
+use Rattle.sam_model.proofs.Lists.{map-ext}
 use Rattle.stream_model.proofs.Prefixes.{restricted-lacks}
 use Rattle.stream_model.proofs.Products.{product-tokens}
 use Rattle.stream_model.proofs.Streams.{stream_at-flat, stream_at-IsStream}

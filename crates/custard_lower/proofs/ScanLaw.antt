@@ -2,11 +2,11 @@
 use Rattle.std.specs.Prelude.{◌≡◌, ◌<◌, ◌≤◌, ℕ, zero, suc, Bool, true, false, List, [], ◌∷◌, ◌++◌, length, get_or, slice_index, Some, refl}
 use mathlib.Core.List.{map}
 use Rattle.std.proofs.Common.{arith, sym, ◌∙◌, ap, subst}
+use Rattle.std.proofs.lemmas.List.{length-map}
 use Rattle.sam_model.specs.Lists.{below}
 use Rattle.sam_model.specs.Tensors.{stored_prefixes, rank_of}
 use Rattle.sam_model.specs.Children.{Ranked, ranked, next_coordinates, children_under, children_of}
 use Rattle.levels.specs.Reads.{children_at}
-use Rattle.levels.proofs.Levels.{length-mapped}
 use Rattle.levels.proofs.RankedLemmas.{ranked-children}
 use Rattle.stream_tokens.specs.declared.Token.{Token}
 use Rattle.stream_tokens.specs.declared.Token.TheVariants.{Item}
@@ -23,7 +23,7 @@ use Rattle.stream_model.specs.Terms.{Operand, TermData, restricted, access_at}
 use Rattle.stream_model.specs.Trees.{admits, all_admit}
 use Rattle.stream_model.specs.Labels.{loop_sizes, product_shape}
 use Rattle.stream_model.specs.Masks.{only, final, levels_before, AllFit}
-use Rattle.stream_model.proofs.Lists.{map-ext, filter-ext}
+use Rattle.sam_model.proofs.Lists.{map-ext, filter-ext}
 use Rattle.stream_model.proofs.Masks.{all_admit-only}
 use Rattle.stream_model.proofs.Prefixes.{restricted-has, access-stored}
 use Rattle.stream_model.proofs.Scans.{keep-length, restricted-within, next-admitted}
@@ -64,7 +64,7 @@ module _ (t : TermData) (f d : ℕ) (fit : AllFit t) (inside : f < length t.acce
   level_inside masked =
       let sizes : length a.tensor.sizes ≡ levels_before a.has (length a.has) =
       ap (λ (sizes : List ℕ). length sizes) (sym (fit f inside)) ∙ keep-length a.has (loop_sizes t.loops)
-      ∙ ap (levels_before a.has) (length-mapped (λ l. l.0) t.loops ∙ sym (masked f inside)) in
+      ∙ ap (levels_before a.has) (length-map t.loops (λ l. l.0) ∙ sym (masked f inside)) in
       let there : level < levels_before a.has (length a.has) = level_there a.has d has in
       omega (arith, sizes, there)
 
@@ -78,7 +78,7 @@ module _ (t : TermData) (f d : ℕ) (fit : AllFit t) (inside : f < length t.acce
         rank-below a.tensor (restricted a p) (restricted-within t f p fit inside h.in_range)
         (access-stored t p f h.passes inside) in
         let n : length (children_of a.tensor (suc level)) ≡ length (stored_prefixes a.tensor (length (restricted a p))) =
-        length-mapped (children_under a.tensor) (stored_prefixes a.tensor level)
+        length-map (stored_prefixes a.tensor level) (children_under a.tensor)
         ∙ ap (λ (n : ℕ). length (stored_prefixes a.tensor n)) (sym stored_long) in
         omega (arith, r, n)
 

@@ -4,7 +4,6 @@ use Rattle.std.specs.Prelude.{◌≡◌, ◌<◌, ℕ, suc, false, List, [], ◌
 use Rattle.std.specs.List.{flat_map}
 use mathlib.Core.List.{map}
 use Rattle.std.proofs.Common.{arith, sym, ◌∙◌, ap, append_assoc, append-nil}
-use Rattle.levels.proofs.Maps.{filter-none}
 use Rattle.sam_model.specs.Lists.{below}
 use Rattle.sam_model.specs.Denote.{Loop}
 use Rattle.stream_tokens.specs.Nest.{Leaf, Fiber}
@@ -17,7 +16,7 @@ use Rattle.stream_model.specs.Terms.{TermData}
 use Rattle.stream_model.specs.Trees.{kept_sizes, in_reduced, value_reduced, reduced_sizes}
 use Rattle.stream_model.specs.Labels.{last, reduced_shape, stream_at}
 use Rattle.stream_model.specs.Reduction.{Reduces}
-use Rattle.stream_model.proofs.Lists.{map-ext}
+use Rattle.sam_model.proofs.Lists.{map-ext, filter-never}
 use Rattle.stream_model.proofs.Reduced.{reduced-closed}
 use Rattle.stream_model.proofs.Streams.{stream_at-IsStream}
 use Rattle.block_core.specs.Ports.{first_item, second_leaf, second}
@@ -60,7 +59,7 @@ module _ (t : TermData) (g : ℕ) where
   inner_absent : (u : List ℕ) → in_reduced t g u ≡ false → inner u ≡ []
   inner_absent u h =
       ap (map (λ b. (b, value_reduced t g (u ++ b ∷ []))))
-      (filter-none (λ b. in_reduced t g (u ++ b ∷ [])) (λ b. reduced-closed t g u (b ∷ []) h)
+      (filter-never (λ b. in_reduced t g (u ++ b ∷ [])) (λ b. reduced-closed t g u (b ∷ []) h)
       (below (slice_index (reduced_sizes t g) (length u))))
 
   inner_beneath : (d : ℕ) → under inner (level (suc d)) ≡ under second (under rows (level d))

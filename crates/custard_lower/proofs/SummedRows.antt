@@ -4,7 +4,7 @@ use Rattle.std.specs.List.{flat_map, filter, list_any}
 use mathlib.Core.List.{map}
 use Rattle.std.proofs.Common.{arith, sym, ◌∙◌, ap, append_assoc}
 use Rattle.std.proofs.lemmas.List.{length_push}
-use Rattle.levels.proofs.Maps.{flat_map-map}
+use Rattle.std.proofs.lemmas.List.Folds.{flat_map-map}
 use Rattle.sam_model.specs.Lists.{below}
 use Rattle.sam_model.specs.Denote.{Loop}
 use Rattle.stream_tokens.specs.Nest.{Leaf, Fiber}
@@ -14,7 +14,7 @@ use Rattle.stream_model.specs.Grow.{next, longer, path_fibers}
 use Rattle.stream_model.specs.Terms.{TermData}
 use Rattle.stream_model.specs.Trees.{in_reduced, value_reduced, reduced_sizes}
 use Rattle.stream_model.specs.Reduction.{Reduces}
-use Rattle.stream_model.proofs.Lists.{map-ext, flat_map-ext}
+use Rattle.sam_model.proofs.Lists.{map-ext, flat_map-ext}
 use Rattle.stream_model.proofs.Grown.{InTree, path_fibers-suc, paths-InTree}
 use Rattle.block_core.specs.Arithmetic.{combine, Plus}
 use Rattle.block_core.specs.Gather.{gather, all_of}

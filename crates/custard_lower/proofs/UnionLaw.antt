@@ -23,7 +23,7 @@ use Rattle.stream_model.specs.Grow.{next, path_fibers}
 use Rattle.stream_model.specs.Terms.{Summand}
 use Rattle.stream_model.specs.Joins.{joined, side_part, in_beside}
 use Rattle.stream_model.specs.Labels.{Shape, joined_shape, beside_shape, last, token, stream_at}
-use Rattle.stream_model.proofs.Lists.{Each-always, Each-map, map-ext, filter-ext}
+use Rattle.sam_model.proofs.Lists.{Each-always, Each-map, map-ext, filter-ext}
 use Rattle.stream_model.proofs.Grown.{InTree, under-same, paths-InTree}
 use Rattle.stream_model.proofs.Sides.{joined-has, beside-tokens}
 use Rattle.stream_model.proofs.Streams.{stream_at-IsStream}

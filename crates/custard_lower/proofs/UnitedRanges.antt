@@ -11,7 +11,7 @@ use Rattle.stream_tokens.specs.Nest.{Leaf}
 use Rattle.stream_tokens.proofs.Algebra.{map-map, map-same}
 use Rattle.block_core.specs.Merge.{Head, look, head_of, or_none, either, unite, padded}
 use Rattle.stream_model.proofs.Numbers.{turned}
-use Rattle.stream_model.proofs.Lists.{Each-append, Each-map, Each-range, filter-range, filter-ext-each, map-ext-each}
+use Rattle.sam_model.proofs.Lists.{Each-append, Each-map, Each-range, filter-range, filter-ext-each, map-ext-each}
 use Rattle.custard_lower.proofs.MetRanges.{head, not-there}
 use Rattle.custard_lower.proofs.Gathered.{occurs, total_at, InRange, gather-range}
 

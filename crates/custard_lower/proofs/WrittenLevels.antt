@@ -9,7 +9,7 @@ use Rattle.sam_model.specs.declared.tensors.Written.{Written}
 use Rattle.sam_model.specs.Listing.{LevelInRange, LevelsInRange, ValuesInRange, InRange, place_above, place_of, path_of, listing}
 use Rattle.stream_model.specs.Grow.{next, longer, path_fibers}
 use Rattle.stream_model.specs.Labels.{last}
-use Rattle.stream_model.proofs.Lists.{Each-always, Each-map}
+use Rattle.sam_model.proofs.Lists.{Each-always, Each-map}
 use Rattle.stream_model.proofs.Grown.{path_fibers-suc}
 use Rattle.stream_model.proofs.Flat.{in_order, in_order-under}
 use Rattle.custard_lower.proofs.ProductTrees.{last-longer}

@@ -13,9 +13,10 @@ use Rattle.stream_model.specs.Grow.{next}
 use Rattle.stream_model.specs.Terms.{TermData}
 use Rattle.stream_model.specs.Trees.{reduced_sizes, in_pruned}
 use Rattle.stream_model.specs.Labels.{last, reduced_shape, stream_at}
-use Rattle.stream_model.proofs.Lists.{Each-range, map-ext-each, filter-ext, filter-none}
+use Rattle.sam_model.proofs.Lists.{Each-range, map-ext-each, filter-ext, filter-none}
 use Rattle.stream_model.proofs.Pruned.{late-test}
-use Rattle.stream_model.proofs.Flat.{ClosedUnder, tuples-long, flat-paths}
+use Rattle.sam_model.proofs.Tuples.{tuples-long}
+use Rattle.stream_model.proofs.Flat.{ClosedUnder, flat-paths}
 use Rattle.stream_model.proofs.Sides.{pruned-root, pruned-closed, pruned-goes-on}
 use Rattle.stream_model.proofs.Results.{pruned-flat}
 use Rattle.custard_lower.proofs.WrittenPlaces.{ends_of}

@@ -18,7 +18,7 @@ use Rattle.block_core.proofs.Laid.{contents-under}
 use Rattle.stream_model.specs.declared.labels.Attr.TheVariants.{Coordinate, Value}
 use Rattle.stream_model.specs.Grow.{next, path_fibers}
 use Rattle.stream_model.specs.Labels.{Shape, last, stream_at, fibers_at}
-use Rattle.stream_model.proofs.Lists.{Each-append, map-ext}
+use Rattle.sam_model.proofs.Lists.{Each-append, map-ext}
 use Rattle.stream_model.proofs.Grown.{InTree, under-same, tokens-suc, paths-InTree}
 use Rattle.stream_model.proofs.Flat.{in_order, in_order-tokens}
 use Rattle.stream_model.proofs.Streams.{stream_at-flat, fibers_of-stream_at}

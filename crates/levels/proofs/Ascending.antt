@@ -7,12 +7,14 @@ use Rattle.std.proofs.lemmas.Bool.Decides.{nat_tests}
 use Rattle.std.proofs.lemmas.List.{length_push}
 use Rattle.sam_model.specs.declared.tensors.Format.{Format}
 use Rattle.sam_model.specs.Lists.{tuples, same_list, smaller}
-use Rattle.sam_model.specs.Tensors.{Stored, is_stored, stored_prefixes, rank_of, list_at}
+use Rattle.sam_model.specs.Tensors.{Stored, is_stored, stored_prefixes, rank_of}
 use Rattle.sam_model.specs.Children.{next_coordinates, children_under, children_of}
-use Rattle.levels.specs.Each.{Each}
+use Rattle.sam_base.specs.Each.{Each}
+use Rattle.sam_model.proofs.Lists.{map-ext-each, Each-append, Each-right, Each-mapped, Each-always, Each-weaker, Each-filter, filter-none-each}
+use Rattle.levels.specs.Placed.{list_at}
 use Rattle.levels.proofs.Orders.{eqb-same, ltb-irrefl, same_list-self, same_list-true, smaller-irrefl, smaller-asym}
-use Rattle.levels.proofs.Maps.{map-ext, Each-append, Each-right, Each-map, Each-always, Each-weaker, Each-filter, filter-none-each}
-use Rattle.levels.proofs.Prefixes.{longer, longer-length, prefixes-more, tuples-front-long}
+use Rattle.sam_model.proofs.Tuples.{tuples-front-long}
+use Rattle.levels.proofs.Prefixes.{longer, longer-length, prefixes-more}
 
 -- each list comes before those after it
 abbrev pub Ascending : List (List ℕ) → Type 0
@@ -41,7 +43,7 @@ headed c b = rw (ltb-irrefl c, eqb-same c)
 pub Ascending-headed : (c : ℕ) (ps : List (List ℕ)) → Ascending ps → Ascending (map (λ u. c ∷ u) ps)
 Ascending-headed c [] up = tt
 Ascending-headed c (p ∷ ps) up = (
-  Each-map (λ q. smaller (c ∷ p) q ≡ true) (λ u. c ∷ u) ps (Each-weaker (λ q. smaller p q ≡ true) (λ q. smaller (c ∷ p) (c ∷ q) ≡ true) (λ q h. headed c (smaller p q) ∙ h) ps up.0),
+  Each-mapped (λ q. smaller (c ∷ p) q ≡ true) (λ u. c ∷ u) ps (Each-weaker (λ q. smaller p q ≡ true) (λ q. smaller (c ∷ p) (c ∷ q) ≡ true) (λ q h. headed c (smaller p q) ∙ h) ps up.0),
   Ascending-headed c ps up.1,
 )
 
@@ -61,7 +63,7 @@ all-from : (ts : List (List ℕ)) (a n : ℕ) → Each (From a) (flat_map (λ c.
 all-from ts a zero = tt
 all-from ts a (suc n) =
     Each-append (From a) (map (λ u. a ∷ u) ts) (flat_map (λ c. map (λ u. c ∷ u) ts) (range_with_len (a + 1) n))
-    (Each-map (From a) (λ u. a ∷ u) ts (Each-always (λ u. a ≤ a) (λ u. omega arith) ts))
+    (Each-mapped (From a) (λ u. a ∷ u) ts (Each-always (λ u. a ≤ a) (λ u. omega arith) ts))
     (Each-weaker (From (a + 1)) (From a) (from-later a) (flat_map (λ c. map (λ u. c ∷ u) ts) (range_with_len (a + 1) n)) (all-from ts (a + 1) n))
 
 later : (a : ℕ) (u q : List ℕ) → From (a + 1) q → smaller (a ∷ u) q ≡ true
@@ -73,7 +75,7 @@ Ascending-range ts up a zero = tt
 Ascending-range ts up a (suc n) =
     Ascending-append (map (λ u. a ∷ u) ts) (flat_map (λ c. map (λ u. c ∷ u) ts) (range_with_len (a + 1) n))
     (Ascending-headed a ts up) (Ascending-range ts up (a + 1) n)
-    (Each-map (λ p. Each (λ q. smaller p q ≡ true) (flat_map (λ c. map (λ u. c ∷ u) ts) (range_with_len (a + 1) n))) (λ u. a ∷ u) ts
+    (Each-mapped (λ p. Each (λ q. smaller p q ≡ true) (flat_map (λ c. map (λ u. c ∷ u) ts) (range_with_len (a + 1) n))) (λ u. a ∷ u) ts
     (Each-always (λ u. Each (λ q. smaller (a ∷ u) q ≡ true) (flat_map (λ c. map (λ u. c ∷ u) ts) (range_with_len (a + 1) n)))
     (λ u. Each-weaker (From (a + 1)) (λ q. smaller (a ∷ u) q ≡ true) (later a u) (flat_map (λ c. map (λ u. c ∷ u) ts) (range_with_len (a + 1) n)) (all-from ts (a + 1) n))
     ts))
@@ -145,12 +147,12 @@ prefixes-long a k h = Each-filter (λ p. length p ≡ k) (is_stored a) (tuples (
 pub children-numbered : (a : Stored) (k : ℕ) (f : Format) → k < length a.sizes → slice_get a.formats k ≡ Some f
     → children_of a (suc k) ≡ number_all 0 (map (next_coordinates a) (stored_prefixes a k))
 children-numbered a k f h at =
-    map-ext (λ p. length p ≡ k) (children_under a) (λ p. map (λ c. (c, rank_in (stored_prefixes a (suc k)) (longer p c))) (next_coordinates a p))
-    (λ p long. map-ext (λ (c : ℕ). Unit {0}) (λ c. (c, rank_of a (longer p c))) (λ c. (c, rank_in (stored_prefixes a (suc k)) (longer p c)))
+    map-ext-each (λ p. length p ≡ k) (children_under a) (λ p. map (λ c. (c, rank_in (stored_prefixes a (suc k)) (longer p c))) (next_coordinates a p))
+    (λ p long. map-ext-each (λ (c : ℕ). Unit {0}) (λ c. (c, rank_of a (longer p c))) (λ c. (c, rank_in (stored_prefixes a (suc k)) (longer p c)))
     (λ c _. ap (λ n. (c, rank_in (stored_prefixes a n) (longer p c))) (longer-length p c k long)) (next_coordinates a p)
     (Each-always (λ (c : ℕ). Unit {0}) (λ c. tt) (next_coordinates a p)))
     (stored_prefixes a k) (prefixes-long a k (omega arith))
-    ∙ numbered-all (stored_prefixes a (suc k)) (prefixes-ascend a (suc k)) (next_coordinates a) (stored_prefixes a k) [] 0 refl (prefixes-more a k f h at)
+    ∙ numbered-all (stored_prefixes a (suc k)) (prefixes-ascend a (suc k)) (next_coordinates a) (stored_prefixes a k) [] 0 refl (prefixes-more a k h)
 
 -- ---- places are apart
 

@@ -7,6 +7,7 @@ use Rattle.std.proofs.lemmas.List.{get_or-drop, get_or-take, length-drop}
 use Rattle.std.proofs.Math.Nat.{mul_comm}
 use Rattle.sam_model.specs.declared.tensors.Tensor.{Tensor}
 use Rattle.sam_model.specs.declared.tensors.Entries.{Entries}
+use Rattle.sam_base.specs.declared.TheConstants.{DIMENSION_MOST}
 use Rattle.sam_model.specs.Accepted.{is_dimension, is_well_formed, distinct}
 use Rattle.sam_model.specs.Lists.{within}
 use Rattle.sam_model.specs.Tensors.{entry_list}
@@ -29,8 +30,8 @@ below-by m n h = grind (arith, nat_tests)
 same-by : (m n : ℕ) → eqb m n ≡ true → m ≡ n
 same-by m n h = grind (arith, nat_tests)
 
-in-range : (d : ℕ) → (leb 1 d && leb d 2147483647) ≡ true → d < 2 ^ 31
-in-range d h = let a = at-most d 2147483647 (and-right (leb 1 d) (leb d 2147483647) h) in omega arith
+in-range : (d : ℕ) → (leb 1 d && leb d DIMENSION_MOST) ≡ true → d < 2 ^ 31
+in-range d h = let a = at-most d DIMENSION_MOST (and-right (leb 1 d) (leb d DIMENSION_MOST) h) in omega arith
 
 pub storable : (t : Tensor) → is_well_formed t ≡ true → IsStorable t
 storable t h =

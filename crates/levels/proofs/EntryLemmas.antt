@@ -3,17 +3,16 @@ use Rattle.std.proofs.Common.{◌≡◌, ℕ, zero, suc, ◌+◌, ◌*◌, ◌<�
 use Rattle.std.specs.Prelude.{slice_index, slice_index_or}
 use mathlib.Core.List.{map}
 use Rattle.std.proofs.lemmas.Bool.Decides.{nat_tests}
-use Rattle.std.proofs.lemmas.List.{get_or-drop, get_or-take, get_or-map, drop-drop}
+use Rattle.std.proofs.lemmas.List.{get_or-drop, get_or-take, get_or-map, drop-drop, length-map}
 use Rattle.std.proofs.lemmas.Nat.{mul-add-lt}
 use Rattle.std.proofs.Math.Nat.{mul_comm, mul-le-mul_right}
 use Rattle.sam_model.specs.declared.tensors.Tensor.{Tensor}
 use Rattle.sam_model.specs.declared.tensors.Entries.{Entries}
 use Rattle.sam_model.specs.Lists.{items_at, within}
 use Rattle.sam_model.specs.Tensors.{entry_list, stored_as}
-use Rattle.levels.specs.Each.{Each}
+use Rattle.sam_base.specs.Each.{Each}
+use Rattle.sam_model.proofs.Lists.{Each-mapped}
 use Rattle.levels.specs.Matches.{IsStorable, Matches}
-use Rattle.levels.proofs.Maps.{Each-map}
-use Rattle.levels.proofs.Levels.{length-mapped}
 
 -- ---- places in the file's list
 
@@ -91,11 +90,11 @@ inside-sizes (m ∷ order) dims front h =
 pub entries-fit : (t : Tensor) (e : Entries) → IsStorable t → Matches t e
     → Each (λ entry. (length entry.0 ≡ length (items_at t.dims t.order)) × (within (items_at t.dims t.order) entry.0 ≡ true)) (stored_as t e).entries
 entries-fit t e ok fits =
-    Each-map (λ entry. (length entry.0 ≡ length (items_at t.dims t.order)) × (within (items_at t.dims t.order) entry.0 ≡ true)) (λ entry. (items_at entry.0 t.order, entry.1)) (entry_list e.arity e.coords e.values)
+    Each-mapped (λ entry. (length entry.0 ≡ length (items_at t.dims t.order)) × (within (items_at t.dims t.order) entry.0 ≡ true)) (λ entry. (items_at entry.0 t.order, entry.1)) (entry_list e.arity e.coords e.values)
     (Each-from-places (λ entry. (length (items_at entry.0 t.order) ≡ length (items_at t.dims t.order)) × (within (items_at t.dims t.order) (items_at entry.0 t.order) ≡ true)) ([], 0) (entry_list e.arity e.coords e.values)
     (λ n h.
     let l : n < length e.values = rw (← length-entry_list e.arity e.coords e.values) h in (
-      length-mapped (λ m. get_or (get_or (entry_list e.arity e.coords e.values) n ([], 0)).0 m 0) t.order ∙ sym (length-mapped (λ m. get_or t.dims m 0) t.order),
+      length-map t.order (λ m. get_or (get_or (entry_list e.arity e.coords e.values) n ([], 0)).0 m 0) ∙ sym (length-map t.order (λ m. get_or t.dims m 0)),
       inside-sizes t.order t.dims (get_or (entry_list e.arity e.coords e.values) n ([], 0)).0 (λ k m. small n l k m),
     )))
   where
@@ -110,4 +109,4 @@ entries-fit t e ok fits =
         subst (λ (x : ℕ). x < get_or t.dims (get_or t.order k 0) 0) (sym is) bound
 
 pub length-stored : (t : Tensor) (e : Entries) → length (stored_as t e).entries ≡ length e.values
-length-stored t e = length-mapped (λ (entry : List ℕ × ℕ). (items_at entry.0 t.order, entry.1)) (entry_list e.arity e.coords e.values) ∙ length-entry_list e.arity e.coords e.values
+length-stored t e = length-map (entry_list e.arity e.coords e.values) (λ (entry : List ℕ × ℕ). (items_at entry.0 t.order, entry.1)) ∙ length-entry_list e.arity e.coords e.values

@@ -4,6 +4,7 @@ use Rattle.std.specs.Prelude.{slice_index}
 use Rattle.std.specs.List.{filter, range_with_len}
 use Rattle.std.specs.List.Sorted.{IsPermutation}
 use mathlib.Core.List.{map}
+use Rattle.std.proofs.lemmas.List.{length-map}
 use Rattle.sam_model.specs.declared.tensors.Tensor.{Tensor}
 use Rattle.sam_model.specs.declared.tensors.Entries.{Entries}
 use Rattle.sam_model.specs.Lists.{below, smaller, tuples}
@@ -11,10 +12,9 @@ use Rattle.sam_model.specs.Tensors.{Stored, is_stored, value_at, stored_prefixes
 use Rattle.sam_model.specs.Children.{Ranked, ranked, children_of}
 use Rattle.levels.specs.declared.rows.Row.{Row}
 use Rattle.levels.specs.declared.level.Level.{Level}
-use Rattle.levels.specs.Placed.{InOrder, Placed}
+use Rattle.levels.specs.Placed.{list_at, InOrder, Placed}
 use Rattle.levels.specs.Rows.{of_rows, sum_at, ranked_values}
 use Rattle.levels.specs.Shown.{level_count, level_children}
-use Rattle.levels.proofs.Levels.{length-mapped}
 use Rattle.levels.proofs.SortLemmas.{moved, stored-same, value-same, prefixes-same}
 use Rattle.levels.proofs.ValueLemmas.{values-are, ranked_values-entries}
 
@@ -40,14 +40,14 @@ shift f a (suc n) =
 
 pub placed-length : (a : Stored) (k count : ℕ) (ranks : List ℕ) → Placed a k count ranks → length ranks ≡ length a.entries
 placed-length a k count ranks placed =
-    sym (length-mapped (Rattle.sam_model.specs.Tensors.list_at (stored_prefixes a k)) ranks) ∙ ap length placed.placed ∙ length-mapped (λ entry. take k entry.0) a.entries
+    sym (length-map ranks (list_at (stored_prefixes a k))) ∙ ap length placed.placed ∙ length-map a.entries (λ entry. take k entry.0)
 
 module _ (t : Tensor) (e : Entries) (rows : List Row) (same : IsPermutation (stored_as t e).entries (of_rows t rows).entries) where
   pub made-prefixes : (k : ℕ) → stored_prefixes (stored_as t e) k ≡ stored_prefixes (of_rows t rows) k
   made-prefixes k = prefixes-same (stored_as t e) (of_rows t rows).entries same k
 
   levels-many : length (of_rows t rows).sizes ≡ length t.order
-  levels-many = length-mapped (slice_index t.dims) t.order
+  levels-many = length-map t.order (slice_index t.dims)
 
   pub made-ranked : (levels : List Level) (values : List ℕ) (count : ℕ) (ranks : List ℕ) → InOrder (of_rows t rows)
       → map level_children levels ≡ map (λ k. children_of (of_rows t rows) (suc k)) (below (length t.order))

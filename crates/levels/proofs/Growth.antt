@@ -8,9 +8,10 @@ use Rattle.std.proofs.lemmas.List.FromFn.{length-map-range_with_len}
 use Rattle.std.proofs.lemmas.Nat.{mul-add-lt}
 use Rattle.std.proofs.Math.Nat.{mul_comm}
 use Rattle.sam_model.specs.Lists.{below}
-use Rattle.levels.specs.Each.{Each, Sorted}
+use Rattle.sam_base.specs.Each.{Each}
+use Rattle.sam_model.proofs.Lists.{Each-append, Each-weaker, map-ext-each}
+use Rattle.levels.specs.Sorted.{Sorted}
 use Rattle.levels.specs.Pairs.{same_pair, ends_with, with_pair, with_pairs, before}
-use Rattle.levels.proofs.Maps.{Each-append, Each-weaker, map-ext}
 use Rattle.levels.proofs.PairLemmas.{range-inside}
 use Rattle.levels.proofs.Views.{before-split}
 
@@ -122,7 +123,7 @@ pub placed-more : (d ps : List (ℕ × ℕ)) (n : ℕ) (ranks : List ℕ) (r : �
     → map (λ r. get_or d r (0, 0)) ranks ≡ take n ps → map (λ r. get_or (with_pair d (get_or ps n (0, 0))) r (0, 0)) (ranks ++ r ∷ []) ≡ take (n + 1) ps
 placed-more d ps n ranks r inside h e so_far =
     map-append (λ r. get_or (with_pair d (get_or ps n (0, 0))) r (0, 0)) ranks (r ∷ [])
-    ∙ join (map-ext (λ r. r < length d) (λ r. get_or (with_pair d (get_or ps n (0, 0))) r (0, 0)) (λ r. get_or d r (0, 0)) (λ r l. with_pair-at d (get_or ps n (0, 0)) (0, 0) r l) ranks h ∙ so_far)
+    ∙ join (map-ext-each (λ r. r < length d) (λ r. get_or (with_pair d (get_or ps n (0, 0))) r (0, 0)) (λ r. get_or d r (0, 0)) (λ r l. with_pair-at d (get_or ps n (0, 0)) (0, 0) r l) ranks h ∙ so_far)
     (with_pair-end d (get_or ps n (0, 0)) (0, 0) r e)
     ∙ sym (take_more ps n (0, 0) inside)
   where

@@ -2,20 +2,21 @@
 use Rattle.std.proofs.Common.{◌≡◌, ℕ, zero, suc, ◌+◌, ◌*◌, ◌<◌, true, List, [], ◌∷◌, Some, length, take, refl, ap, sym, ◌∙◌, arith, length-append, zero-add}
 use Rattle.std.specs.Prelude.{slice_get, slice_index, slice_index_or}
 use Rattle.std.specs.List.{filter}
-use mathlib.Core.List.{map}
-use Rattle.std.proofs.lemmas.List.{get_or_append_left, get_or-append-add}
+use mathlib.Core.List.{map, map-map}
+use Rattle.std.proofs.lemmas.List.{get_or_append_left, get_or-append-add, length-map}
 use Rattle.std.proofs.lemmas.List.FromFn.{length-map-range_with_len, get_or-map-range_with_len}
 use Rattle.std.proofs.lemmas.Nat.{mul-add-lt}
 use Rattle.std.proofs.Math.Nat.{mul_comm}
 use Rattle.sam_model.specs.declared.tensors.Format.TheVariants.{Dense, Compressed}
 use Rattle.sam_model.specs.Lists.{below, within}
-use Rattle.sam_model.specs.Tensors.{Stored, is_stored, stored_prefixes, list_at}
+use Rattle.sam_model.specs.Tensors.{Stored, is_stored, stored_prefixes}
 use Rattle.sam_model.specs.Children.{children_of}
 use Rattle.levels.specs.Arrays.{dense_children, fibers}
-use Rattle.levels.specs.Each.{Each, Sorted}
+use Rattle.sam_base.specs.Each.{Each}
+use Rattle.sam_model.proofs.Lists.{map-ext-each, flat_map-ext-each, filter-ext, Each-mapped, Each-weaker, Each-both}
+use Rattle.levels.specs.Sorted.{Sorted}
 use Rattle.levels.specs.Pairs.{NotAfter, with_pairs, before}
-use Rattle.levels.specs.Placed.{InOrder, Placed, pairs_at}
-use Rattle.levels.proofs.Maps.{map-map, map-ext, flat_map-ext, filter-ext, Each-map, Each-weaker, Each-both}
+use Rattle.levels.specs.Placed.{list_at, InOrder, Placed, pairs_at}
 use Rattle.levels.proofs.Prefixes.{longer, stored-compressed}
 use Rattle.levels.proofs.Ascending.{prefixes-ascend, prefixes-long, number_all}
 use Rattle.levels.proofs.PairLemmas.{has, pairs_by, below-inside, pairs-by-parents}
@@ -28,10 +29,6 @@ pub list_at-map : (f : ℕ × ℕ → List ℕ) (xs : List (ℕ × ℕ)) (i : �
 list_at-map f [] i h = absurd (omega arith)
 list_at-map f (x ∷ xs) zero h = refl
 list_at-map f (x ∷ xs) (suc i) h = list_at-map f xs i (omega arith)
-
-pub length-mapped : {A B : Type 0} (f : A → B) (xs : List A) → length (map f xs) ≡ length xs
-length-mapped f [] = refl
-length-mapped f (x ∷ xs) = ap suc (length-mapped f xs)
 
 abbrev pub grid : ℕ → ℕ → ℕ → List (ℕ × ℕ)
 grid s a n = pairs_by (λ r. below s) a n
@@ -96,7 +93,7 @@ module _ (a : Stored) (order : InOrder a) (k : ℕ) (inside : k < length a.sizes
     module _ (at : slice_get a.formats k ≡ Some Dense) where
       dense-pairs : all_pairs a k Dense inside at ≡ grid (slice_index a.sizes k) 0 (length (stored_prefixes a k))
       dense-pairs =
-          flat_map-ext (λ r. r < length (stored_prefixes a k)) (λ r. map (λ c. (r, c)) (coordinates_under a k Dense inside at r)) (λ r. map (λ c. (r, c)) (below (slice_index a.sizes k)))
+          flat_map-ext-each (λ r. r < length (stored_prefixes a k)) (λ r. map (λ c. (r, c)) (coordinates_under a k Dense inside at r)) (λ r. map (λ c. (r, c)) (below (slice_index a.sizes k)))
           (λ r h. ap (map (λ c. (r, c))) (dense-under a k inside at r h)) (below (length (stored_prefixes a k))) (below-inside (length (stored_prefixes a k)))
 
       dense-prefixes : stored_prefixes a (suc k) ≡ map (joined (stored_prefixes a k)) (grid (slice_index a.sizes k) 0 (length (stored_prefixes a k)))
@@ -105,26 +102,26 @@ module _ (a : Stored) (order : InOrder a) (k : ℕ) (inside : k < length a.sizes
       pub dense-count : count * slice_index a.sizes k ≡ length (stored_prefixes a (suc k))
       dense-count =
           ap (λ n. n * slice_index a.sizes k) placed.counted
-          ∙ sym (ap length dense-prefixes ∙ length-mapped (joined (stored_prefixes a k)) (grid (slice_index a.sizes k) 0 (length (stored_prefixes a k)))
+          ∙ sym (ap length dense-prefixes ∙ length-map (grid (slice_index a.sizes k) 0 (length (stored_prefixes a k))) (joined (stored_prefixes a k))
           ∙ grid-length (slice_index a.sizes k) 0 (length (stored_prefixes a k)))
 
       pub dense-children-of : dense_children (slice_index a.sizes k) count ≡ children_of a (suc k)
       dense-children-of =
           ap (dense_children (slice_index a.sizes k)) placed.counted
           ∙ dense-numbered (slice_index a.sizes k) (length (stored_prefixes a k))
-          ∙ ap (number_all 0) (map-ext (λ r. r < length (stored_prefixes a k)) (λ r. below (slice_index a.sizes k)) (coordinates_under a k Dense inside at)
+          ∙ ap (number_all 0) (map-ext-each (λ r. r < length (stored_prefixes a k)) (λ r. below (slice_index a.sizes k)) (coordinates_under a k Dense inside at)
           (λ r h. sym (dense-under a k inside at r h)) (below (length (stored_prefixes a k))) (below-inside (length (stored_prefixes a k))))
           ∙ sym (children-by-places a k Dense inside at)
 
       pub dense-placed : Placed a (suc k) (count * slice_index a.sizes k) (map (λ x. x.0 * slice_index a.sizes k + x.1) (pairs_at ranks k a.entries))
       dense-placed = record {
         counted = dense-count;
-        ranked = Each-map (λ r. r < count * slice_index a.sizes k) (λ x. x.0 * slice_index a.sizes k + x.1) (pairs_at ranks k a.entries)
+        ranked = Each-mapped (λ r. r < count * slice_index a.sizes k) (λ x. x.0 * slice_index a.sizes k + x.1) (pairs_at ranks k a.entries)
             (Each-weaker (λ x. (x.0 < count) × (x.1 < slice_index a.sizes k)) (λ x. x.0 * slice_index a.sizes k + x.1 < count * slice_index a.sizes k)
             (λ x h. rank-below x.0 x.1 h.0 h.1) (pairs_at ranks k a.entries) level-pairs-inside);
         placed =
             map-map (list_at (stored_prefixes a (suc k))) (λ x. x.0 * slice_index a.sizes k + x.1) (pairs_at ranks k a.entries)
-            ∙ map-ext (λ x. (x.0 < count) × (x.1 < slice_index a.sizes k)) (λ x. list_at (stored_prefixes a (suc k)) (x.0 * slice_index a.sizes k + x.1)) (joined (stored_prefixes a k))
+            ∙ map-ext-each (λ x. (x.0 < count) × (x.1 < slice_index a.sizes k)) (λ x. list_at (stored_prefixes a (suc k)) (x.0 * slice_index a.sizes k + x.1)) (joined (stored_prefixes a k))
             (λ x h. at-pair x.0 x.1 h.0 h.1) (pairs_at ranks k a.entries) level-pairs-inside
             ∙ joined-pairs (stored_prefixes a k) k ranks a.entries placed.placed entries-long;
       }
@@ -157,7 +154,7 @@ module _ (a : Stored) (order : InOrder a) (k : ℕ) (inside : k < length a.sizes
       compressed-pairs =
           pairs-by-parents count (slice_index a.sizes k) (pairs_at ranks k a.entries) level-pairs-sorted level-pairs-inside
           ∙ ap (pairs_by (λ r. filter (λ c. has (pairs_at ranks k a.entries) (r, c)) (below (slice_index a.sizes k))) 0) placed.counted
-          ∙ flat_map-ext (λ r. r < length (stored_prefixes a k)) (λ r. map (λ c. (r, c)) (filter (λ c. has (pairs_at ranks k a.entries) (r, c)) (below (slice_index a.sizes k))))
+          ∙ flat_map-ext-each (λ r. r < length (stored_prefixes a k)) (λ r. map (λ c. (r, c)) (filter (λ c. has (pairs_at ranks k a.entries) (r, c)) (below (slice_index a.sizes k))))
           (λ r. map (λ c. (r, c)) (coordinates_under a k Compressed inside at r))
           (λ r h. ap (map (λ c. (r, c))) (sym (compressed-under r h))) (below (length (stored_prefixes a k))) (below-inside (length (stored_prefixes a k)))
 
@@ -165,7 +162,7 @@ module _ (a : Stored) (order : InOrder a) (k : ℕ) (inside : k < length a.sizes
       compressed-prefixes = prefixes-by-places a k Compressed inside at ∙ ap (map (joined (stored_prefixes a k))) (sym compressed-pairs)
 
       pub compressed-count : length (with_pairs [] (pairs_at ranks k a.entries)) ≡ length (stored_prefixes a (suc k))
-      compressed-count = sym (ap length compressed-prefixes ∙ length-mapped (joined (stored_prefixes a k)) (with_pairs [] (pairs_at ranks k a.entries)))
+      compressed-count = sym (ap length compressed-prefixes ∙ length-map (with_pairs [] (pairs_at ranks k a.entries)) (joined (stored_prefixes a k)))
 
       pub compressed-children-of : fibers (map (before (with_pairs [] (pairs_at ranks k a.entries))) (below (count + 1))) (map (λ (x : ℕ × ℕ). x.1) (with_pairs [] (pairs_at ranks k a.entries))) ≡ children_of a (suc k)
       compressed-children-of =
@@ -180,7 +177,7 @@ module _ (a : Stored) (order : InOrder a) (k : ℕ) (inside : k < length a.sizes
         counted = compressed-count;
         ranked = below-all;
         placed =
-            map-ext (λ r. r < length (with_pairs [] (pairs_at ranks k a.entries))) (list_at (stored_prefixes a (suc k))) (λ r. joined (stored_prefixes a k) (slice_index_or (with_pairs [] (pairs_at ranks k a.entries)) r (0, 0)))
+            map-ext-each (λ r. r < length (with_pairs [] (pairs_at ranks k a.entries))) (list_at (stored_prefixes a (suc k))) (λ r. joined (stored_prefixes a k) (slice_index_or (with_pairs [] (pairs_at ranks k a.entries)) r (0, 0)))
             (λ r h. ap (λ ps. list_at ps r) compressed-prefixes ∙ list_at-map (joined (stored_prefixes a k)) (with_pairs [] (pairs_at ranks k a.entries)) r h) next below-all
             ∙ sym (map-map (joined (stored_prefixes a k)) (λ r. slice_index_or (with_pairs [] (pairs_at ranks k a.entries)) r (0, 0)) next)
             ∙ ap (map (joined (stored_prefixes a k))) there

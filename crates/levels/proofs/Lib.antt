@@ -5,7 +5,6 @@ pub mod FinalLemmas
 pub mod Growth
 pub mod Levels
 pub mod LoopLemmas
-pub mod Maps
 pub mod NextLemmas
 pub mod Orders
 pub mod PairLemmas

@@ -7,7 +7,7 @@ use Rattle.sam_model.specs.Lists.{below}
 use Rattle.sam_model.specs.Tensors.{Stored, stored_prefixes}
 use Rattle.sam_model.specs.Children.{children_of}
 use Rattle.levels.specs.declared.level.Level.{Level}
-use Rattle.levels.specs.Each.{Each}
+use Rattle.sam_base.specs.Each.{Each}
 use Rattle.levels.specs.Placed.{Placed}
 use Rattle.levels.specs.Shown.{level_count, level_children}
 use Rattle.levels.proofs.Levels.{root-placed}

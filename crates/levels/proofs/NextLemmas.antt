@@ -3,7 +3,7 @@ use Rattle.std.proofs.Common.{◌≡◌, ℕ, suc, ◌+◌, ◌*◌, ◌<◌, Li
 use Rattle.std.specs.Prelude.{slice_get, slice_index, slice_index_or}
 use Rattle.std.specs.Result.{IfOk}
 use mathlib.Core.List.{map}
-use Rattle.std.proofs.lemmas.List.{get_or-map}
+use Rattle.std.proofs.lemmas.List.{get_or-map, length-map}
 use Rattle.sam_model.specs.declared.tensors.Tensor.{Tensor}
 use Rattle.sam_model.specs.declared.tensors.Format.{Format}
 use Rattle.sam_model.specs.declared.tensors.Format.TheVariants.{Dense, Compressed}
@@ -11,14 +11,15 @@ use Rattle.sam_model.specs.Tensors.{stored_prefixes}
 use Rattle.sam_model.specs.Children.{children_of}
 use Rattle.levels.specs.declared.rows.Row.{Row}
 use Rattle.levels.specs.Arrays.{dense_children}
-use Rattle.levels.specs.Each.{Each, Sorted}
+use Rattle.sam_base.specs.Each.{Each}
+use Rattle.sam_model.proofs.Lists.{Each-weaker}
+use Rattle.levels.specs.Sorted.{Sorted}
 use Rattle.levels.specs.Matches.{IsStorable}
 use Rattle.levels.specs.Pairs.{NotAfter, with_pairs}
 use Rattle.levels.specs.Placed.{InOrder, Placed}
 use Rattle.levels.specs.Rows.{of_rows, row_pairs}
 use Rattle.levels.specs.Shown.{pair_children}
-use Rattle.levels.proofs.Maps.{Each-weaker}
-use Rattle.levels.proofs.Levels.{length-mapped, level-pairs-inside, level-pairs-sorted, dense-count, dense-children-of, dense-placed, compressed-count, compressed-children-of, compressed-placed}
+use Rattle.levels.proofs.Levels.{level-pairs-inside, level-pairs-sorted, dense-count, dense-children-of, dense-placed, compressed-count, compressed-children-of, compressed-placed}
 use Rattle.levels.proofs.RowLemmas.{row_pairs-entries}
 
 -- ---- what a result holds
@@ -37,7 +38,7 @@ ok-from-three P Q S R (Err e) f h k l = h
 
 module _ (t : Tensor) (rows : List Row) (place count : ℕ) (ranks : List ℕ) (ok : IsStorable t) (inside : place < length t.order) (order : InOrder (of_rows t rows)) (placed : Placed (of_rows t rows) place count ranks) where
   in-sizes : place < length (of_rows t rows).sizes
-  in-sizes = let e = length-mapped (slice_index t.dims) t.order in omega arith
+  in-sizes = let e = length-map t.order (slice_index t.dims) in omega arith
 
   pairs-are : row_pairs ranks place rows ≡ Rattle.levels.specs.Placed.pairs_at ranks place (of_rows t rows).entries
   pairs-are = row_pairs-entries ranks place (length t.order) rows inside

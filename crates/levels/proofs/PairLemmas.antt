@@ -4,10 +4,11 @@ use Rattle.std.specs.List.{flat_map, filter, list_any, range_with_len}
 use mathlib.Core.List.{map}
 use Rattle.std.proofs.lemmas.Bool.Decides.{nat_tests}
 use Rattle.sam_model.specs.Lists.{below}
-use Rattle.levels.specs.Each.{Each, Sorted}
+use Rattle.sam_base.specs.Each.{Each}
+use Rattle.sam_model.proofs.Lists.{Each-append, Each-mapped, Each-always, Each-flat_map, Each-weaker, Each-filter, filter-flat_map, filter-map, flat_map-ext-each}
+use Rattle.levels.specs.Sorted.{Sorted}
 use Rattle.levels.specs.Pairs.{same_pair, pair_below, NotAfter, with_pair, with_pairs}
 use Rattle.levels.proofs.Orders.{eqb-same, eqb-true, and-left, and-right}
-use Rattle.levels.proofs.Maps.{Each-append, Each-map, Each-always, Each-flat_map, Each-weaker, Each-filter, filter-flat_map, filter-map, flat_map-ext}
 
 abbrev pub Before : ℕ × ℕ → ℕ × ℕ → Type 0
 Before x y = pair_below x y ≡ true
@@ -175,7 +176,7 @@ below-inside n = Each-weaker (λ r. (0 ≤ r) × (r < 0 + n)) (λ r. r < n) (λ 
 pub parents-from : (K : ℕ → List ℕ) (a n : ℕ) → Each (λ x. a ≤ x.0) (pairs_by K a n)
 parents-from K a n =
     Each-flat_map (λ r. (a ≤ r) × (r < a + n)) (λ x. a ≤ x.0) (λ r. map (λ c. (r, c)) (K r))
-    (λ r h. Each-map (λ x. a ≤ x.0) (λ c. (r, c)) (K r) (Each-always (λ (c : ℕ). a ≤ r) (λ c. h.0) (K r))) (range_with_len a n) (range-inside a n)
+    (λ r h. Each-mapped (λ x. a ≤ x.0) (λ c. (r, c)) (K r) (Each-always (λ (c : ℕ). a ≤ r) (λ c. h.0) (K r))) (range_with_len a n) (range-inside a n)
 
 Sorted-append : (xs ys : List (ℕ × ℕ)) → Sorted Before xs → Sorted Before ys → Each (λ x. Each (Before x) ys) xs → Sorted Before (xs ++ ys)
 Sorted-append [] ys up vp all = vp
@@ -184,7 +185,7 @@ Sorted-append (x ∷ xs) ys up vp all = (Each-append (Before x) xs ys up.0 all.0
 Sorted-row : (r a n : ℕ) → Sorted Before (map (λ c. (r, c)) (range_with_len a n))
 Sorted-row r a zero = tt
 Sorted-row r a (suc n) = (
-  Each-map (Before (r, a)) (λ c. (r, c)) (range_with_len (a + 1) n) (Each-weaker (λ c. (a + 1 ≤ c) × (c < a + 1 + n)) (λ c. Before (r, a) (r, c)) (λ c h. next r a c (omega arith)) (range_with_len (a + 1) n) (range-inside (a + 1) n)),
+  Each-mapped (Before (r, a)) (λ c. (r, c)) (range_with_len (a + 1) n) (Each-weaker (λ c. (a + 1 ≤ c) × (c < a + 1 + n)) (λ c. Before (r, a) (r, c)) (λ c h. next r a c (omega arith)) (range_with_len (a + 1) n) (range-inside (a + 1) n)),
   Sorted-row r (a + 1) n,
 )
   where
@@ -195,7 +196,7 @@ grid-sorted : (s a n : ℕ) → Sorted Before (pairs_by (λ r. below s) a n)
 grid-sorted s a zero = tt
 grid-sorted s a (suc n) =
     Sorted-append (map (λ c. (a, c)) (below s)) (pairs_by (λ r. below s) (a + 1) n) (Sorted-row a 0 s) (grid-sorted s (a + 1) n)
-    (Each-map (λ x. Each (Before x) (pairs_by (λ r. below s) (a + 1) n)) (λ c. (a, c)) (below s)
+    (Each-mapped (λ x. Each (Before x) (pairs_by (λ r. below s) (a + 1) n)) (λ c. (a, c)) (below s)
     (Each-always (λ c. Each (Before (a, c)) (pairs_by (λ r. below s) (a + 1) n))
     (λ c. Each-weaker (λ x. a + 1 ≤ x.0) (Before (a, c)) (λ x h. later a c x.0 x.1 (omega arith)) (pairs_by (λ r. below s) (a + 1) n) (parents-from (λ r. below s) (a + 1) n))
     (below s)))
@@ -283,7 +284,7 @@ pairs-by-parents n s xs up inside =
     (Sorted-with_pairs xs [] tt up tt) (Sorted-filter (has xs) (pairs_by (λ r. below s) 0 n) (grid-sorted s 0 n))
     (λ z. has-with_pairs xs [] z ∙ sym (has-filter (has xs) (pairs_by (λ r. below s) 0 n) z ∙ all z (has xs z) refl))
     ∙ filter-flat_map (has xs) (λ r. map (λ c. (r, c)) (below s)) (below n)
-    ∙ flat_map-ext (λ (r : ℕ). Unit {0}) (λ r. filter (has xs) (map (λ c. (r, c)) (below s))) (λ r. map (λ c. (r, c)) (filter (λ c. has xs (r, c)) (below s)))
+    ∙ flat_map-ext-each (λ (r : ℕ). Unit {0}) (λ r. filter (has xs) (map (λ c. (r, c)) (below s))) (λ r. map (λ c. (r, c)) (filter (λ c. has xs (r, c)) (below s)))
     (λ r _. filter-map (has xs) (λ c. (r, c)) (below s)) (below n) (Each-always (λ (r : ℕ). Unit {0}) (λ r. tt) (below n))
   where
     all : (z : ℕ × ℕ) (b : Bool) → has xs z ≡ b → (has xs z && has (pairs_by (λ r. below s) 0 n) z) ≡ has xs z

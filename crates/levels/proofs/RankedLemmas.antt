@@ -2,10 +2,10 @@
 use Rattle.std.proofs.Common.{◌≡◌, ℕ, suc, ◌-◌, ◌<◌, ◌≤◌, [], length, ap, sym, ◌∙◌, arith, zero-add}
 use Rattle.std.specs.Prelude.{slice_index, slice_index_or}
 use Rattle.std.proofs.lemmas.List.FromFn.{get_or-map-range_with_len, length-map-range_with_len}
+use Rattle.std.proofs.lemmas.List.{length-map}
 use Rattle.sam_model.specs.Tensors.{Stored, stored_prefixes, value_at}
 use Rattle.sam_model.specs.Children.{Ranked, ranked, children_of, children_under}
 use Rattle.levels.specs.Reads.{children_at}
-use Rattle.levels.proofs.Levels.{length-mapped}
 
 pub ranked-count : (a : Stored) (k : ℕ) → k ≤ length a.sizes → slice_index (ranked a).counts k ≡ length (stored_prefixes a k)
 ranked-count a k h = get_or-map-range_with_len (λ k. length (stored_prefixes a k)) 0 (suc (length a.sizes)) k k 0 (omega arith) (zero-add k)
@@ -18,10 +18,10 @@ ranked-children a k h =
 -- each stored prefix has a list of children
 pub ranked-parents : (a : Stored) (k : ℕ) → k < length a.sizes → length (children_at (ranked a) (suc k)) ≡ slice_index (ranked a).counts k
 ranked-parents a k h =
-    ap length (ranked-children a k h) ∙ length-mapped (children_under a) (stored_prefixes a k) ∙ sym (ranked-count a k (omega arith))
+    ap length (ranked-children a k h) ∙ length-map (stored_prefixes a k) (children_under a) ∙ sym (ranked-count a k (omega arith))
 
 pub ranked-values : (a : Stored) → length (ranked a).values ≡ slice_index (ranked a).counts (length a.sizes)
-ranked-values a = length-mapped (value_at a) (stored_prefixes a (length a.sizes)) ∙ sym (ranked-count a (length a.sizes) (omega arith))
+ranked-values a = length-map (stored_prefixes a (length a.sizes)) (value_at a) ∙ sym (ranked-count a (length a.sizes) (omega arith))
 
 pub ranked-levels : (a : Stored) → length (ranked a).counts ≡ suc (length a.sizes)
 ranked-levels a = length-map-range_with_len (λ k. length (stored_prefixes a k)) 0 (suc (length a.sizes))

@@ -5,12 +5,13 @@ use Rattle.std.specs.List.{filter}
 use mathlib.Core.List.{map}
 use Rattle.std.proofs.lemmas.Bool.Decides.{nat_tests}
 use Rattle.std.proofs.lemmas.List.FromFn.{length-map-range_with_len, get_or-map-range_with_len}
+use Rattle.std.proofs.lemmas.List.{length-map}
 use Rattle.sam_model.specs.Lists.{below}
-use Rattle.levels.specs.Each.{Each, Sorted}
+use Rattle.sam_base.specs.Each.{Each}
+use Rattle.sam_model.proofs.Lists.{Each-weaker}
+use Rattle.levels.specs.Sorted.{Sorted}
 use Rattle.levels.specs.Pairs.{NotAfter, with_pairs, before}
-use Rattle.levels.proofs.Maps.{Each-weaker}
 use Rattle.levels.proofs.PairLemmas.{Before, Each-with_pair, Sorted-with_pairs}
-use Rattle.levels.proofs.Levels.{length-mapped}
 
 Each-with_pairs : (Q : ℕ × ℕ → Type 0) (xs d : List (ℕ × ℕ)) → Each Q d → Each Q xs → Each Q (with_pairs d xs)
 Each-with_pairs Q [] d h k = h
@@ -77,6 +78,6 @@ pub segments-within : (pairs : List (ℕ × ℕ)) (segments coordinates : List �
     → (r : ℕ) → r < length segments → slice_index segments r ≤ length coordinates
 segments-within pairs segments coordinates n made seconds r h =
     let a = segment-at pairs segments n r made h in
-    let b : length coordinates ≡ length pairs = ap length seconds ∙ length-mapped (λ (x : ℕ × ℕ). x.1) pairs in
+    let b : length coordinates ≡ length pairs = ap length seconds ∙ length-map pairs (λ (x : ℕ × ℕ). x.1) in
     let c = before-within pairs r in
     rw (a, b) c

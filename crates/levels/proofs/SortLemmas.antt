@@ -12,9 +12,10 @@ use Rattle.std.proofs.lemmas.List.Recursion.{is_sum_by}
 use Rattle.sam_model.specs.Lists.{smaller, same_list, total, tuples}
 use Rattle.sam_model.specs.Tensors.{Stored, compressed_until, is_stored, value_at, stored_prefixes}
 use Rattle.levels.specs.declared.rows.Row.{Row}
-use Rattle.levels.specs.Each.{Each, Sorted}
+use Rattle.sam_base.specs.Each.{Each}
+use Rattle.sam_model.proofs.Lists.{Each-mapped, Each-weaker, filter-ext}
+use Rattle.levels.specs.Sorted.{Sorted}
 use Rattle.levels.specs.Rows.{entry_of}
-use Rattle.levels.proofs.Maps.{Each-map, Each-weaker}
 use Rattle.levels.proofs.Growth.{Each-get}
 use Rattle.levels.proofs.EntryLemmas.{Each-from-places}
 
@@ -61,7 +62,7 @@ Sorted-from-places R d (x ∷ xs) h =
 
 Sorted-map : {A B : Type 0} (R : A → A → Type 0) (S : B → B → Type 0) (f : A → B) → ((x y : A) → R x y → S (f x) (f y)) → (xs : List A) → Sorted R xs → Sorted S (map f xs)
 Sorted-map R S f e [] h = tt
-Sorted-map R S f e (x ∷ xs) h = (Each-map (S (f x)) f xs (Each-weaker (R x) (λ y. S (f x) (f y)) (λ y r. e x y r) xs h.0), Sorted-map R S f e xs h.1)
+Sorted-map R S f e (x ∷ xs) h = (Each-mapped (S (f x)) f xs (Each-weaker (R x) (λ y. S (f x) (f y)) (λ y r. e x y r) xs h.0), Sorted-map R S f e xs h.1)
 
 pub sorted-entries : (n : ℕ) (rows : List Row) → IsSortedByKey (λ (row : Row). row.coordinates) (slice_cmp nat_cmp) rows → Sorted (λ x y. smaller y.0 x.0 ≡ false) (map (entry_of n) rows)
 sorted-entries n rows up =
@@ -94,4 +95,4 @@ module _ (a : Stored) (entries : List (List ℕ × ℕ)) (same : IsPermutation a
   value-same c = ap (λ n. n % 2 ^ 64) (total-same (λ entry. cond (same_list entry.0 c) entry.1 0))
 
   pub prefixes-same : (k : ℕ) → stored_prefixes a k ≡ stored_prefixes moved k
-  prefixes-same k = Rattle.levels.proofs.Maps.filter-ext (is_stored a) (is_stored moved) stored-same (tuples (take k a.sizes))
+  prefixes-same k = filter-ext (is_stored a) (is_stored moved) stored-same (tuples (take k a.sizes))

@@ -2,18 +2,20 @@
 use Rattle.std.proofs.Common.{◌≡◌, ℕ, zero, suc, ◌+◌, ◌<◌, ◌≤◌, Bool, true, false, ◌&&◌, ◌||◌, List, [], ◌∷◌, ◌++◌, Some, length, take, eqb, ltb, refl, ap, sym, ◌∙◌, arith, append_assoc, length-append, inl, inr, ◌⊎◌}
 use Rattle.std.specs.Prelude.{slice_get, slice_index}
 use Rattle.std.specs.List.{flat_map, filter, list_any, range_with_len}
-use mathlib.Core.List.{map}
+use mathlib.Core.List.{map, map-map}
 use Rattle.std.proofs.lemmas.Bool.Decides.{nat_tests}
+use Rattle.std.proofs.lemmas.List.Folds.{flat_map-map}
 use Rattle.sam_model.specs.declared.tensors.Format.{Format}
 use Rattle.sam_model.specs.declared.tensors.Format.TheVariants.{Dense}
 use Rattle.sam_model.specs.Lists.{below, same_list, smaller, within}
-use Rattle.sam_model.specs.Tensors.{Stored, is_stored, stored_prefixes, list_at}
+use Rattle.sam_model.specs.Tensors.{Stored, is_stored, stored_prefixes}
 use Rattle.sam_model.specs.Children.{next_coordinates, children_of}
-use Rattle.levels.specs.Each.{Each, Sorted}
-use Rattle.levels.specs.Placed.{pairs_at}
+use Rattle.sam_base.specs.Each.{Each}
+use Rattle.sam_model.proofs.Lists.{map-flat_map, flat_map-ext-each, filter-all-each, Each-always, Each-passed}
+use Rattle.levels.specs.Sorted.{Sorted}
+use Rattle.levels.specs.Placed.{list_at, pairs_at}
 use Rattle.levels.specs.Pairs.{same_pair, pair_below, NotAfter}
 use Rattle.levels.proofs.Orders.{same_list-self, same_list-true}
-use Rattle.levels.proofs.Maps.{map-map, map-flat_map, flat_map-ext, flat_map-map, filter-all-each, Each-always, Each-passed}
 use Rattle.levels.proofs.Prefixes.{longer, next_prefixes, prefixes-more, stored-dense}
 use Rattle.levels.proofs.Ascending.{Ascending, ascending-at, same-place, prefixes-long, number_all, children-numbered}
 use Rattle.levels.proofs.PairLemmas.{has, pairs_by}
@@ -64,10 +66,10 @@ module _ (a : Stored) (k : ℕ) (f : Format) (inside : k < length a.sizes) (at :
 
   pub prefixes-by-places : stored_prefixes a (suc k) ≡ map (joined (stored_prefixes a k)) all_pairs
   prefixes-by-places =
-      prefixes-more a k f inside at
+      prefixes-more a k inside
       ∙ ap (flat_map (next_prefixes a)) (sym (by-places (stored_prefixes a k)))
       ∙ flat_map-map (next_prefixes a) (list_at (stored_prefixes a k)) (below (length (stored_prefixes a k)))
-      ∙ flat_map-ext (λ (r : ℕ). Unit {0}) (λ r. next_prefixes a (list_at (stored_prefixes a k) r)) (λ r. map (joined (stored_prefixes a k)) (map (λ c. (r, c)) (coordinates_under r)))
+      ∙ flat_map-ext-each (λ (r : ℕ). Unit {0}) (λ r. next_prefixes a (list_at (stored_prefixes a k) r)) (λ r. map (joined (stored_prefixes a k)) (map (λ c. (r, c)) (coordinates_under r)))
       (λ r _. sym (map-map (joined (stored_prefixes a k)) (λ c. (r, c)) (coordinates_under r))) (below (length (stored_prefixes a k)))
       (Each-always (λ (r : ℕ). Unit {0}) (λ r. tt) (below (length (stored_prefixes a k))))
       ∙ sym (map-flat_map (joined (stored_prefixes a k)) (λ r. map (λ c. (r, c)) (coordinates_under r)) (below (length (stored_prefixes a k))))

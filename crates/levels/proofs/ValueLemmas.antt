@@ -1,20 +1,20 @@
 -- The sum of the values at each rank.
 use Rattle.std.proofs.Common.{◌≡◌, ℕ, zero, suc, ◌+◌, ◌%◌, ◌^◌, ◌<◌, ◌≤◌, ◌≢◌, false, cond, List, [], ◌∷◌, ◌++◌, length, take, get_or, set, replicate, eqb, refl, ap, sym, ◌∙◌, arith, add-zero, zero-add, length-set, get_or-set_same, get_or-set_other, inl, inr, ◌⊎◌}
 use Rattle.std.specs.List.{range_with_len, zip}
-use mathlib.Core.List.{map}
+use mathlib.Core.List.{map, map-map}
 use Rattle.std.proofs.lemmas.Bool.Decides.{nat_tests}
 use Rattle.std.proofs.lemmas.List.{take_more, take_all, same_lists}
 use Rattle.std.proofs.lemmas.List.FromFn.{length-map-range_with_len, get_or-map-range_with_len}
 use Rattle.std.proofs.Math.Nat.{mod-add-mod}
 use Rattle.sam_model.specs.Lists.{total, below, same_list}
-use Rattle.sam_model.specs.Tensors.{Stored, stored_prefixes, value_at, list_at}
+use Rattle.sam_model.specs.Tensors.{Stored, stored_prefixes, value_at}
 use Rattle.sam_model.specs.Children.{values_of}
 use Rattle.levels.specs.declared.rows.Row.{Row}
-use Rattle.levels.specs.Each.{Each}
-use Rattle.levels.specs.Placed.{Placed}
+use Rattle.sam_base.specs.Each.{Each}
+use Rattle.sam_model.proofs.Lists.{map-ext-each, Each-weaker}
+use Rattle.levels.specs.Placed.{list_at, Placed}
 use Rattle.levels.specs.Rows.{entry_of, sum_at, ranked_values}
 use Rattle.levels.proofs.Orders.{eqb-same}
-use Rattle.levels.proofs.Maps.{map-map, map-ext}
 use Rattle.levels.proofs.Ascending.{Ascending, prefixes-ascend, same-place}
 use Rattle.levels.proofs.PairLemmas.{below-inside}
 use Rattle.levels.proofs.Steps.{by-places}
@@ -109,10 +109,10 @@ pub values-are : (a : Stored) (n count : ℕ) (ranks : List ℕ) → length a.si
     → map (sum_at (zip ranks (map (λ entry. entry.1) a.entries))) (below count) ≡ values_of a
 values-are a n count ranks levels long placed =
     ap (λ m. map (sum_at (zip ranks (map (λ entry. entry.1) a.entries))) (below m)) placed.counted
-    ∙ map-ext (λ r. r < length (stored_prefixes a n)) (sum_at (zip ranks (map (λ entry. entry.1) a.entries))) (λ r. value_at a (list_at (stored_prefixes a n) r))
+    ∙ map-ext-each (λ r. r < length (stored_prefixes a n)) (sum_at (zip ranks (map (λ entry. entry.1) a.entries))) (λ r. value_at a (list_at (stored_prefixes a n) r))
     (λ r h. ap (λ t. t % 2 ^ 64) (sym (total-same (stored_prefixes a n) (prefixes-ascend a n) r h ranks a.entries
-    (Rattle.levels.proofs.Maps.Each-weaker (λ r. r < count) (λ r. r < length (stored_prefixes a n)) (λ r l. let e = placed.counted in omega arith) ranks placed.ranked)
-    (placed.placed ∙ map-ext (λ entry. length entry.0 ≡ length a.sizes) (λ entry. take n entry.0) (λ entry. entry.0) (λ entry e. take_all n entry.0 (omega arith)) a.entries long))))
+    (Each-weaker (λ r. r < count) (λ r. r < length (stored_prefixes a n)) (λ r l. let e = placed.counted in omega arith) ranks placed.ranked)
+    (placed.placed ∙ map-ext-each (λ entry. length entry.0 ≡ length a.sizes) (λ entry. take n entry.0) (λ entry. entry.0) (λ entry e. take_all n entry.0 (omega arith)) a.entries long))))
     (below (length (stored_prefixes a n))) (below-inside (length (stored_prefixes a n)))
     ∙ sym (map-map (value_at a) (list_at (stored_prefixes a n)) (below (length (stored_prefixes a n))))
     ∙ ap (map (value_at a)) (by-places (stored_prefixes a n))

@@ -6,11 +6,12 @@ use mathlib.Core.List.{map}
 use Rattle.std.proofs.lemmas.Bool.Decides.{nat_tests}
 use Rattle.std.proofs.lemmas.List.{length_push, map-append, append-nil}
 use Rattle.std.proofs.lemmas.List.FromFn.{length-range_with_len, length-map-range_with_len, get_or-map-range_with_len}
+use Rattle.std.proofs.lemmas.List.Elements.{filter-append}
 use Rattle.sam_model.specs.Lists.{below}
 use Rattle.levels.specs.Arrays.{dense_children, fiber, fibers}
-use Rattle.levels.specs.Each.{Each}
+use Rattle.sam_base.specs.Each.{Each}
+use Rattle.sam_model.proofs.Lists.{map-ext-each, Each-append, Each-mapped, Each-always, Each-weaker, filter-none-each, filter-all-each}
 use Rattle.levels.specs.Pairs.{before}
-use Rattle.levels.proofs.Maps.{map-ext, Each-append, Each-map, Each-always, Each-weaker, filter-append, filter-none-each, filter-all-each}
 use Rattle.levels.proofs.Ascending.{number, number_all}
 use Rattle.levels.proofs.PairLemmas.{pairs_by, below-inside, parents-from}
 
@@ -97,7 +98,7 @@ fibers-numbered K (suc n) a done pairs i e h small =
     let first : before pairs a ≡ i = ap (λ t. before t a) h ∙ before-split done (pairs_by K a (suc n)) a small (parents-from K a (suc n)) ∙ e in
     let small' : Each (λ x. x.0 < a + 1) (done ++ map (λ c. (a, c)) (K a))
     = Each-append (λ x. x.0 < a + 1) done (map (λ c. (a, c)) (K a)) (Each-weaker (λ x. x.0 < a) (λ x. x.0 < a + 1) (λ x l. omega arith) done small)
-    (Each-map (λ x. x.0 < a + 1) (λ c. (a, c)) (K a) (Each-always (λ (c : ℕ). a < a + 1) (λ c. omega arith) (K a))) in
+    (Each-mapped (λ x. x.0 < a + 1) (λ c. (a, c)) (K a) (Each-always (λ (c : ℕ). a < a + 1) (λ c. omega arith) (K a))) in
     let long : length (done ++ map (λ c. (a, c)) (K a)) ≡ i + length (K a) = length-append done (map (λ c. (a, c)) (K a)) ∙ two e (length-row a (K a)) in
     let next : before pairs (a + 1) ≡ i + length (K a)
     = ap (λ t. before t (a + 1)) shift ∙ before-split (done ++ map (λ c. (a, c)) (K a)) (pairs_by K (a + 1) n) (a + 1) small' (parents-from K (a + 1) n) ∙ long in
@@ -120,7 +121,7 @@ pub compressed-numbered : (K : ℕ → List ℕ) (n : ℕ) (pairs : List (ℕ ×
 compressed-numbered K n pairs h =
     let long : length (map (before pairs) (below (n + 1))) - 1 ≡ n = omega (arith, length-map-range_with_len (before pairs) 0 (n + 1)) in
     ap (λ m. map (λ r. fiber (map (λ (x : ℕ × ℕ). x.1) pairs) (slice_index (map (before pairs) (below (n + 1))) r) (slice_index (map (before pairs) (below (n + 1))) (r + 1) - slice_index (map (before pairs) (below (n + 1))) r)) (below m)) long
-    ∙ map-ext (λ r. r < n)
+    ∙ map-ext-each (λ r. r < n)
     (λ r. fiber (map (λ (x : ℕ × ℕ). x.1) pairs) (slice_index (map (before pairs) (below (n + 1))) r) (slice_index (map (before pairs) (below (n + 1))) (r + 1) - slice_index (map (before pairs) (below (n + 1))) r))
     (λ r. fiber (map (λ (x : ℕ × ℕ). x.1) pairs) (before pairs r) (before pairs (r + 1) - before pairs r))
     (λ r l.

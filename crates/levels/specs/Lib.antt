@@ -1,5 +1,5 @@
 pub mod Arrays
-pub mod Each
+pub mod Sorted
 pub mod Matches
 pub mod Pairs
 pub mod Placed

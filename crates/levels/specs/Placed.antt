@@ -1,10 +1,15 @@
 -- Entries in storage order, and where their prefixes stand among the stored prefixes of a length.
-use Rattle.std.specs.Prelude.{◌≡◌, ℕ, ◌<◌, true, false, List, length, take, slice_index}
+use Rattle.std.specs.Prelude.{◌≡◌, ℕ, ◌<◌, true, false, List, [], length, take, slice_index, slice_index_or}
 use Rattle.std.specs.List.{zip}
 use mathlib.Core.List.{map}
 use Rattle.sam_model.specs.Lists.{smaller, within}
-use Rattle.sam_model.specs.Tensors.{Stored, stored_prefixes, list_at}
-use Rattle.levels.specs.Each.{Each, Sorted}
+use Rattle.sam_model.specs.Tensors.{Stored, stored_prefixes}
+use Rattle.sam_base.specs.Each.{Each}
+use Rattle.levels.specs.Sorted.{Sorted}
+
+-- the list at a place
+abbrev pub list_at : List (List ℕ) → ℕ → List ℕ
+list_at lists place = slice_index_or lists place []
 
 -- the entries ascend, and each has a coordinate below the size of each level
 pub record InOrder (a : Stored) : Type 0 where

@@ -4,7 +4,8 @@ ghost use Rattle.std.specs.Prelude.{◌≡◌, ℕ, ◌+◌, ◌^◌, ◌<◌, �
 ghost use mathlib.Core.List.{map};
 ghost use Rattle.sam_model.specs.Lists.{below};
 ghost use Rattle.levels.specs.Arrays.{fibers};
-ghost use Rattle.levels.specs.Each.{Each, Sorted};
+ghost use Rattle.sam_base.specs.Each.{Each};
+ghost use Rattle.levels.specs.Sorted.{Sorted};
 ghost use Rattle.levels.specs.Pairs.{NotAfter, before};
 
 use crate::pairs::Pair;

@@ -2,7 +2,7 @@
 
 ghost use Rattle.std.specs.Prelude.{◌≡◌, ◌+◌, ◌^◌, ◌<◌, ◌≤◌, [], length, slice_index_or, IfOk, OnOk, IsErrOf};
 ghost use mathlib.Core.List.{map};
-ghost use Rattle.levels.specs.Each.{Each};
+ghost use Rattle.sam_base.specs.Each.{Each};
 ghost use Rattle.levels.specs.Pairs.{ends_with, with_pair, with_pairs};
 ghost use Rattle.levels.specs.Rows.{row_pairs};
 

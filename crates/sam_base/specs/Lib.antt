@@ -1,3 +1,4 @@
 pub mod Causes
+pub mod Each
 pub mod Kinds
 pub mod Texts

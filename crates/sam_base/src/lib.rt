@@ -30,14 +30,5 @@ pub const FACTORS_MOST: usize = 8;
 /// The most terms of a statement.
 pub const TERMS_MOST: usize = 16;
 
-/// The most blocks of a graph that runs with a thread for each.
-pub const THREADED_BLOCKS_MOST: u32 = 256;
-
 /// The greatest capacity of a channel; the least is 1.
 pub const CAPACITY_MOST: u32 = 1_048_576;
-
-/// The capacity of each channel of a threaded run where none is given.
-pub const CAPACITY_OF_RUN: u32 = 65_536;
-
-/// The greatest number of the generated workload; the least is 1.
-pub const LARGE_MOST: u32 = 262_144;

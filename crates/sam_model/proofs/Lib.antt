@@ -3,4 +3,6 @@ mod Rows
 mod Worked
 mod WorkedListing
 pub mod AcceptedLemmas
-pub mod OneLevel
+pub mod Lists
+pub mod Stored
+pub mod Tuples

@@ -2,6 +2,7 @@
 use Rattle.std.specs.Prelude.{ℕ, zero, suc, ◌+◌, Bool, true, false, not, ◌&&◌, ◌||◌, ◌==◌, List, [], ◌∷◌, length, slice_index, nat_le, nat_lt, count_by}
 use Rattle.std.specs.List.{list_all, list_any}
 use Rattle.std.specs.Str.{bytes_eq}
+use Rattle.sam_base.specs.declared.TheConstants.{DIMENSION_MOST, FACTORS_MOST, TERMS_MOST, VARIABLES_MOST}
 use Rattle.sam_model.specs.declared.tensors.Format.{Format}
 use Rattle.sam_model.specs.declared.tensors.Format.TheVariants.{Dense, Compressed}
 use Rattle.sam_model.specs.declared.tensors.Tensor.{Tensor}
@@ -34,7 +35,7 @@ ascending [] = true
 ascending (x ∷ xs) = ascending_from x xs
 
 abbrev pub is_dimension : ℕ → Bool
-is_dimension d = nat_le 1 d && nat_le d 2147483647
+is_dimension d = nat_le 1 d && nat_le d DIMENSION_MOST
 
 -- a permutation of the modes below n
 abbrev pub is_order : ℕ → List ℕ → Bool
@@ -47,7 +48,7 @@ is_compressed Compressed = true
 -- at most eight dimensions in range, as many formats, and a storage order
 abbrev pub is_well_formed : Tensor → Bool
 is_well_formed t =
-    nat_le (length t.dims) 8
+    nat_le (length t.dims) VARIABLES_MOST
     && (list_all is_dimension t.dims && (length t.formats == length t.dims && is_order (length t.dims) t.order))
 
 abbrev pub is_operand : Tensor → Bool
@@ -97,7 +98,7 @@ factor_reduces left f = list_all (reduces left) (vars_of f)
 -- one to eight factors that fit, with an access and each variable of the left, and no reduction too deep
 abbrev pub term_fits : List Tensor → List ℕ → List ℕ → Term → Bool
 term_fits tensors sizes left t =
-    nat_le 1 (length t.factors) && (nat_le (length t.factors) 8
+    nat_le 1 (length t.factors) && (nat_le (length t.factors) FACTORS_MOST
     && (list_all (factor_fits tensors sizes) t.factors
     && (list_any is_access t.factors
     && (list_all (term_has t) left
@@ -109,10 +110,10 @@ stands left terms v = is_in v left || terms_have terms v
 
 abbrev pub statement_fits : Program → Bool
 statement_fits p =
-    length p.var_names == length p.var_sizes && (nat_le (length p.var_sizes) 8 && (distinct_names p.var_names
+    length p.var_names == length p.var_sizes && (nat_le (length p.var_sizes) VARIABLES_MOST && (distinct_names p.var_names
     && (list_all (stands p.left p.terms) (below (length p.var_sizes))
     && (access_fits p.var_sizes p.left p.result
-    && (nat_le 1 (length p.terms) && (nat_le (length p.terms) 16
+    && (nat_le 1 (length p.terms) && (nat_le (length p.terms) TERMS_MOST
     && list_all (term_fits p.tensors p.var_sizes p.left) p.terms))))))
 
 -- one of these tensors has the name

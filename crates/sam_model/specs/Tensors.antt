@@ -51,13 +51,3 @@ stored_prefixes a k = filter (is_stored a) (tuples (take k a.sizes))
 -- the number of smaller stored prefixes of the same length
 abbrev pub rank_of : Stored → List ℕ → ℕ
 rank_of a p = length (filter (λ q. smaller q p) (stored_prefixes a (length p)))
-
--- the list at a place
-abbrev pub list_at : List (List ℕ) → ℕ → List ℕ
-list_at [] n = []
-list_at (x ∷ xs) zero = x
-list_at (x ∷ xs) (suc n) = list_at xs n
-
--- the stored prefix of length k and rank r
-abbrev pub prefix_at : Stored → ℕ → ℕ → List ℕ
-prefix_at a k r = list_at (stored_prefixes a k) r

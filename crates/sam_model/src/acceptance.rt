@@ -2,23 +2,26 @@
 
 ghost use Rattle.std.specs.Prelude.{◌≡◌, nat_lt, count_by, slice_index};
 ghost use Rattle.std.specs.List.{list_all, list_any};
-ghost use Rattle.sam_model.specs.Lists.{below, is_in as in_list, items_at};
-ghost use Rattle.sam_model.specs.Denote.{has_var as has_variable};
-ghost use Rattle.sam_model.specs.Accepted.{distinct as apart, is_named as named, distinct_names as names_apart, ascending as ascends, ascending_from as ascends_from, is_dimension as in_range, is_order as orders, is_compressed as compressed, is_well_formed as well_formed, is_operand as operand, is_result as result_form, variables_fit as vars_fit, access_fits as fits, factor_fits as fits_factor, tensor_passes, is_access as accesses, term_has as has, reduces as shallow, term_fits as fits_term, stands as occurs, statement_fits as fits_statement, declarations_fit as fits_declarations, terms_have as have, factor_reduces as factor_shallow, is_taken as taken, distinct_tensors as tensors_apart, accepted as accepts};
+ghost use Rattle.sam_model.specs.Lists.{below, is_in, items_at};
+ghost use Rattle.sam_model.specs.Denote.{has_var};
+ghost use Rattle.sam_model.specs.Accepted.{distinct, is_named, distinct_names, is_taken, distinct_tensors, ascending_from, ascending};
+ghost use Rattle.sam_model.specs.Accepted.{is_dimension, is_order, is_compressed, is_well_formed, is_operand, is_result, declarations_fit};
+ghost use Rattle.sam_model.specs.Accepted.{variables_fit, access_fits, tensor_passes, factor_fits, is_access, term_has, terms_have, stands};
+ghost use Rattle.sam_model.specs.Accepted.{reduces, factor_reduces, term_fits, statement_fits, accepted};
 
 use crate::program::{Factor, Program, Term};
 use crate::tensors::{Format, Tensor};
 use sam_base::{DIMENSION_MOST, FACTORS_MOST, Name, TERMS_MOST, VARIABLES_MOST};
 
 fn is_in(v: u64, vars: &[u64]) -> bool
-    ensures { result ≡ in_list v vars.now }
+    ensures { result ≡ is_in v vars.now }
 {
     vars.iter().any(|w| v == *w)
 }
 
 /// Whether no number stands twice.
 fn distinct(numbers: &[u64]) -> bool
-    ensures { result ≡ apart numbers.now }
+    ensures { result ≡ distinct numbers.now }
 {
     match numbers {
         [] => true,
@@ -28,14 +31,14 @@ fn distinct(numbers: &[u64]) -> bool
 
 /// Whether one of these names is this one.
 pub fn is_named(name: &[u8], names: &[Name]) -> bool
-    ensures { result ≡ named name.now names.now }
+    ensures { result ≡ is_named name.now names.now }
 {
     names.iter().any(|other| name == other.as_bytes())
 }
 
 /// Whether no name stands twice.
 pub fn distinct_names(names: &[Name]) -> bool
-    ensures { result ≡ names_apart names.now }
+    ensures { result ≡ distinct_names names.now }
 {
     match names {
         [] => true,
@@ -50,7 +53,7 @@ fn item_at(numbers: &[u64], place: u64) -> u64
 }
 
 fn ascending_from(last: u64, vars: &[u64], order: &[u64]) -> bool
-    ensures { result ≡ ascends_from last (items_at vars.now order.now) }
+    ensures { result ≡ ascending_from last (items_at vars.now order.now) }
 {
     match order {
         [] => true,
@@ -63,7 +66,7 @@ fn ascending_from(last: u64, vars: &[u64], order: &[u64]) -> bool
 
 /// Whether the variables stand in loop order when they are listed in storage order.
 pub fn ascending(vars: &[u64], order: &[u64]) -> bool
-    ensures { result ≡ ascends (items_at vars.now order.now) }
+    ensures { result ≡ ascending (items_at vars.now order.now) }
 {
     match order {
         [] => true,
@@ -72,7 +75,7 @@ pub fn ascending(vars: &[u64], order: &[u64]) -> bool
 }
 
 pub fn is_dimension(d: u64) -> bool
-    ensures { result ≡ in_range d }
+    ensures { result ≡ is_dimension d }
 {
     1 <= d && d <= DIMENSION_MOST
 }
@@ -85,13 +88,13 @@ fn are_below(numbers: &[u64], count: u64) -> bool
 
 /// Whether these are the modes below a count, each once.
 pub fn is_order(count: usize, order: &[u64]) -> bool
-    ensures { result ≡ orders count order.now }
+    ensures { result ≡ is_order count order.now }
 {
     order.len() == count && are_below(order, count as u64) && distinct(order)
 }
 
 pub fn is_compressed(format: &Format) -> bool
-    ensures { result ≡ compressed format.now }
+    ensures { result ≡ is_compressed format.now }
 {
     match format {
         Format::Dense => false,
@@ -100,19 +103,19 @@ pub fn is_compressed(format: &Format) -> bool
 }
 
 pub fn are_compressed(formats: &[Format]) -> bool
-    ensures { result ≡ list_all compressed formats.now }
+    ensures { result ≡ list_all is_compressed formats.now }
 {
     formats.iter().all(|format| is_compressed(format))
 }
 
 pub fn are_dimensions(dims: &[u64]) -> bool
-    ensures { result ≡ list_all in_range dims.now }
+    ensures { result ≡ list_all is_dimension dims.now }
 {
     dims.iter().all(|d| is_dimension(*d))
 }
 
 fn is_well_formed(tensor: &Tensor) -> bool
-    ensures { result ≡ well_formed tensor.now }
+    ensures { result ≡ is_well_formed tensor.now }
 {
     let count = tensor.dims.len();
     count <= VARIABLES_MOST
@@ -122,20 +125,20 @@ fn is_well_formed(tensor: &Tensor) -> bool
 }
 
 fn is_operand(tensor: &Tensor) -> bool
-    ensures { result ≡ operand tensor.now }
+    ensures { result ≡ is_operand tensor.now }
 {
     1 <= tensor.dims.len() && is_well_formed(tensor)
 }
 
 fn is_result(tensor: &Tensor) -> bool
-    ensures { result ≡ result_form tensor.now }
+    ensures { result ≡ is_result tensor.now }
 {
     is_well_formed(tensor) && are_compressed(tensor.formats.as_slice())
 }
 
 /// Whether there are as many variables as dimensions, each in range and of the size of its dimension.
 fn variables_fit(sizes: &[u64], dims: &[u64], vars: &[u64]) -> bool
-    ensures { result ≡ vars_fit sizes.now dims.now vars.now }
+    ensures { result ≡ variables_fit sizes.now dims.now vars.now }
 {
     match dims {
         [] => match vars {
@@ -155,7 +158,7 @@ fn variables_fit(sizes: &[u64], dims: &[u64], vars: &[u64]) -> bool
 
 /// Whether the variables of an access fit its tensor, none stands twice, and in storage order they stand in loop order.
 fn access_fits(sizes: &[u64], vars: &[u64], tensor: &Tensor) -> bool
-    ensures { result ≡ fits sizes.now vars.now tensor.now }
+    ensures { result ≡ access_fits sizes.now vars.now tensor.now }
 {
     variables_fit(sizes, tensor.dims.as_slice(), vars)
         && distinct(vars)
@@ -164,7 +167,7 @@ fn access_fits(sizes: &[u64], vars: &[u64], tensor: &Tensor) -> bool
 
 /// Whether an access of a tensor, by its number, is in range and fits.
 fn numbered_fits(tensors: &[Tensor], number: usize, sizes: &[u64], vars: &[u64]) -> bool
-    ensures { result ≡ tensor_passes (fits sizes.now vars.now) tensors.now number }
+    ensures { result ≡ tensor_passes (access_fits sizes.now vars.now) tensors.now number }
 {
     if number < tensors.len() {
         access_fits(sizes, vars, &tensors[number])
@@ -174,7 +177,7 @@ fn numbered_fits(tensors: &[Tensor], number: usize, sizes: &[u64], vars: &[u64])
 }
 
 fn factor_fits(tensors: &[Tensor], sizes: &[u64], factor: &Factor) -> bool
-    ensures { result ≡ fits_factor tensors.now sizes.now factor.now }
+    ensures { result ≡ factor_fits tensors.now sizes.now factor.now }
 {
     match factor {
         Factor::Access { tensor, vars } => {
@@ -185,7 +188,7 @@ fn factor_fits(tensors: &[Tensor], sizes: &[u64], factor: &Factor) -> bool
 }
 
 fn factors_fit(tensors: &[Tensor], sizes: &[u64], factors: &[Factor]) -> bool
-    ensures { result ≡ list_all (fits_factor tensors.now sizes.now) factors.now }
+    ensures { result ≡ list_all (factor_fits tensors.now sizes.now) factors.now }
 {
     factors
         .iter()
@@ -193,7 +196,7 @@ fn factors_fit(tensors: &[Tensor], sizes: &[u64], factors: &[Factor]) -> bool
 }
 
 fn is_access(factor: &Factor) -> bool
-    ensures { result ≡ accesses factor.now }
+    ensures { result ≡ is_access factor.now }
 {
     match factor {
         Factor::Access { .. } => true,
@@ -202,13 +205,13 @@ fn is_access(factor: &Factor) -> bool
 }
 
 fn has_access(factors: &[Factor]) -> bool
-    ensures { result ≡ list_any accesses factors.now }
+    ensures { result ≡ list_any is_access factors.now }
 {
     factors.iter().any(|factor| is_access(factor))
 }
 
 fn has_var(v: u64, factor: &Factor) -> bool
-    ensures { result ≡ has_variable v factor.now }
+    ensures { result ≡ has_var v factor.now }
 {
     match factor {
         Factor::Access { vars, .. } => is_in(v, vars.as_slice()),
@@ -217,7 +220,7 @@ fn has_var(v: u64, factor: &Factor) -> bool
 }
 
 fn term_has(term: &Term, v: u64) -> bool
-    ensures { result ≡ has term.now v }
+    ensures { result ≡ term_has term.now v }
 {
     term.factors
         .as_slice()
@@ -226,7 +229,7 @@ fn term_has(term: &Term, v: u64) -> bool
 }
 
 fn has_all(term: &Term, left: &[u64]) -> bool
-    ensures { result ≡ list_all (has term.now) left.now }
+    ensures { result ≡ list_all (term_has term.now) left.now }
 {
     left.iter().all(|v| term_has(term, *v))
 }
@@ -239,13 +242,13 @@ fn count_after(left: &[u64], v: u64) -> usize
 
 /// Whether at most two variables of the left come after a variable, unless it is on the left itself.
 fn reduces(left: &[u64], v: u64) -> bool
-    ensures { result ≡ shallow left.now v }
+    ensures { result ≡ reduces left.now v }
 {
     is_in(v, left) || count_after(left, v) <= 2
 }
 
 fn factor_reduces(left: &[u64], factor: &Factor) -> bool
-    ensures { result ≡ factor_shallow left.now factor.now }
+    ensures { result ≡ factor_reduces left.now factor.now }
 {
     match factor {
         Factor::Access { vars, .. } => vars.as_slice().iter().all(|v| reduces(left, *v)),
@@ -254,14 +257,14 @@ fn factor_reduces(left: &[u64], factor: &Factor) -> bool
 }
 
 fn factors_reduce(left: &[u64], factors: &[Factor]) -> bool
-    ensures { result ≡ list_all (factor_shallow left.now) factors.now }
+    ensures { result ≡ list_all (factor_reduces left.now) factors.now }
 {
     factors.iter().all(|factor| factor_reduces(left, factor))
 }
 
 /// Whether a term has one to eight factors that fit, an access, each variable of the left, and no reduction too deep.
 fn term_fits(tensors: &[Tensor], sizes: &[u64], left: &[u64], term: &Term) -> bool
-    ensures { result ≡ fits_term tensors.now sizes.now left.now term.now }
+    ensures { result ≡ term_fits tensors.now sizes.now left.now term.now }
 {
     let factors = term.factors.as_slice();
     1 <= factors.len()
@@ -273,7 +276,7 @@ fn term_fits(tensors: &[Tensor], sizes: &[u64], left: &[u64], term: &Term) -> bo
 }
 
 fn terms_fit(tensors: &[Tensor], sizes: &[u64], left: &[u64], terms: &[Term]) -> bool
-    ensures { result ≡ list_all (fits_term tensors.now sizes.now left.now) terms.now }
+    ensures { result ≡ list_all (term_fits tensors.now sizes.now left.now) terms.now }
 {
     terms
         .iter()
@@ -281,20 +284,20 @@ fn terms_fit(tensors: &[Tensor], sizes: &[u64], left: &[u64], terms: &[Term]) ->
 }
 
 fn terms_have(terms: &[Term], v: u64) -> bool
-    ensures { result ≡ have terms.now v }
+    ensures { result ≡ terms_have terms.now v }
 {
     terms.iter().any(|term| term_has(term, v))
 }
 
 /// Whether a variable stands in the statement.
 fn stands(left: &[u64], terms: &[Term], v: u64) -> bool
-    ensures { result ≡ occurs left.now terms.now v }
+    ensures { result ≡ stands left.now terms.now v }
 {
     is_in(v, left) || terms_have(terms, v)
 }
 
 fn all_stand(left: &[u64], terms: &[Term], count: usize) -> bool
-    ensures { result ≡ list_all (occurs left.now terms.now) (below count) }
+    ensures { result ≡ list_all (stands left.now terms.now) (below count) }
 {
     for v in 0..count {
         if !stands(left, terms, v as u64) {
@@ -305,13 +308,13 @@ fn all_stand(left: &[u64], terms: &[Term], count: usize) -> bool
 }
 
 pub fn is_taken(name: &[u8], tensors: &[Tensor]) -> bool
-    ensures { result ≡ taken name.now tensors.now }
+    ensures { result ≡ is_taken name.now tensors.now }
 {
     tensors.iter().any(|tensor| name == tensor.name.as_bytes())
 }
 
 fn distinct_tensors(tensors: &[Tensor]) -> bool
-    ensures { result ≡ tensors_apart tensors.now }
+    ensures { result ≡ distinct_tensors tensors.now }
 {
     for i in 0..tensors.len() {
         if is_taken(tensors[i].name.as_bytes(), &tensors[i + 1..]) {
@@ -325,7 +328,7 @@ fn distinct_tensors(tensors: &[Tensor]) -> bool
 /// variables, each of which stands in the statement; each access fits its tensor, in loop order; each term has an access
 /// and each variable of the left side; and at most two variables of the left come after one that is summed over.
 pub fn statement_fits(p: &Program) -> bool
-    ensures { result ≡ fits_statement p.now }
+    ensures { result ≡ statement_fits p.now }
 {
     let left = p.left.as_slice();
     let sizes = p.var_sizes.as_slice();
@@ -341,13 +344,13 @@ pub fn statement_fits(p: &Program) -> bool
 }
 
 fn are_operands(tensors: &[Tensor]) -> bool
-    ensures { result ≡ list_all operand tensors.now }
+    ensures { result ≡ list_all is_operand tensors.now }
 {
     tensors.iter().all(|tensor| is_operand(tensor))
 }
 
 fn declarations_fit(p: &Program) -> bool
-    ensures { result ≡ fits_declarations p.now.tensors p.now.result }
+    ensures { result ≡ declarations_fit p.now.tensors p.now.result }
 {
     let tensors = p.tensors.as_slice();
     are_operands(tensors)
@@ -359,7 +362,7 @@ fn declarations_fit(p: &Program) -> bool
 /// Whether a program is accepted: its tensors and its result are well formed and have different names, and its statement
 /// fits them.
 pub fn accepted(p: &Program) -> bool
-    ensures { result ≡ accepts p.now }
+    ensures { result ≡ accepted p.now }
 {
     declarations_fit(p) && statement_fits(p)
 }

@@ -10,9 +10,6 @@ use Rattle.sam_text.specs.Numbers.{decimal, is_decimal, number_at}
 use Rattle.sam_text.specs.declared.numbers.NumFault.{NumFault}
 use Rattle.sam_text.specs.declared.numbers.NumFault.TheVariants.{BadNumber, NumberTooLarge}
 
-pub digit-range : (b : ℕ) → is_digit b ≡ true → (48 ≤ b) × (b ≤ 57)
-digit-range b h = let p = and_parts _ _ h in (leb-true _ _ p.0, leb-true _ _ p.1)
-
 pub digit_at : (bs : List ℕ) (i d : ℕ) → list_all is_digit bs ≡ true → i < length bs → is_digit (get_or bs i d) ≡ true
 digit_at [] i d h k = absurd (omega (arith, k))
 digit_at (b ∷ bs) zero d h k = (and_parts _ _ h).0

@@ -35,7 +35,7 @@ pub words_past_gaps : (bs : List ℕ) → words bs ≡ words (drop (prefix_len i
 words_past_gaps [] = refl
 words_past_gaps (b ∷ bs) = words-skip (is_gap b) b bs (prefix_len is_gap bs) refl (words_past_gaps bs)
 
-pub words_of_gaps : (bs : List ℕ) → prefix_len is_gap bs ≡ length bs → words bs ≡ []
+words_of_gaps : (bs : List ℕ) → prefix_len is_gap bs ≡ length bs → words bs ≡ []
 words_of_gaps bs e = words_past_gaps bs ∙ rw e (ap words (drop-length bs))
 
 -- the parts, split into the first and the others

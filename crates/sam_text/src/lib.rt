@@ -7,6 +7,6 @@ mod places;
 #[cfg(test)]
 mod tests;
 
-pub use bytes::{is_blank, is_digit, is_gap, is_letter, is_name, is_name_byte, is_word_name};
+pub use bytes::{is_blank, is_digit, is_letter, is_name, is_name_byte};
 pub use numbers::{NumFault, read_u64};
 pub use places::{line_at, word_at};

@@ -2,7 +2,7 @@
 
 ghost use Rattle.std.specs.Prelude.{◌≡◌, ◌≤◌, ◌<◌, ◌^◌, length, slice_range, IsTrue, nat_lt, if◌then◌else◌, true, Some, None};
 ghost use Rattle.std.specs.List.{prefix_len, list_all};
-ghost use Rattle.sam_text.specs.Bytes.{is_digit as digit_byte};
+ghost use Rattle.sam_text.specs.Bytes.{is_digit};
 ghost use Rattle.sam_text.specs.Numbers.{decimal, number_at};
 
 use crate::bytes::is_digit;
@@ -21,14 +21,14 @@ pub enum NumFault {
 
 /// How many digits stand at the beginning.
 fn digit_count(bytes: &[u8]) -> usize
-    ensures { result ≡ prefix_len digit_byte bytes.now }
+    ensures { result ≡ prefix_len is_digit bytes.now }
 {
     bytes.iter().take_while(|byte| is_digit(**byte)).count()
 }
 
 /// The number that digits spell, or None where it is above 2^64-1.
 fn number_of(digits: &[u8]) -> Option<u64>
-    requires { list_all digit_byte digits.now ≡ true }
+    requires { list_all is_digit digits.now ≡ true }
     ensures { result ≡ (if nat_lt (decimal digits.now) (2 ^ 64) then Some (decimal digits.now) else None) }
 {
     let mut number: u64 = 0;

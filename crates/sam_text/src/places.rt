@@ -2,7 +2,7 @@
 
 ghost use Rattle.std.specs.Prelude.{◌≡◌, ◌+◌, ◌-◌, ◌≤◌, ◌<◌, [], ◌∷◌, length, drop, min, slice_range, MatchOption, IfSome};
 ghost use Rattle.std.specs.List.{prefix_len, position_or_len};
-ghost use Rattle.sam_text.specs.Bytes.{is_newline, is_gap as gap_byte};
+ghost use Rattle.sam_text.specs.Bytes.{is_newline, is_gap};
 ghost use Rattle.sam_text.specs.Lines.{lines};
 ghost use Rattle.sam_text.specs.Words.{words};
 
@@ -17,14 +17,14 @@ fn line_length(bytes: &[u8]) -> usize
 
 /// How many gaps stand at the beginning.
 fn gap_length(bytes: &[u8]) -> usize
-    ensures { result ≡ prefix_len gap_byte bytes.now }
+    ensures { result ≡ prefix_len is_gap bytes.now }
 {
     bytes.iter().take_while(|byte| is_gap(**byte)).count()
 }
 
 /// How many bytes stand before the first gap.
 fn word_length(bytes: &[u8]) -> usize
-    ensures { result ≡ position_or_len gap_byte bytes.now }
+    ensures { result ≡ position_or_len is_gap bytes.now }
 {
     bytes.iter().take_while(|byte| !is_gap(**byte)).count()
 }
@@ -53,11 +53,11 @@ pub fn word_at(text: &[u8], from: usize, to: usize) -> Option<(usize, usize)>
     requires ordered { from ≤ to }
     requires in_text { to ≤ length text.now }
     // There is none exactly where each byte of the part is a gap.
-    ensures found { MatchOption result (prefix_len gap_byte (slice_range text.now from to) ≡ to - from)
-        (λ word. prefix_len gap_byte (slice_range text.now from to) < to - from) }
+    ensures found { MatchOption result (prefix_len is_gap (slice_range text.now from to) ≡ to - from)
+        (λ word. prefix_len is_gap (slice_range text.now from to) < to - from) }
     // The word begins at the first byte that is no gap, and ends at the gap behind it.
-    ensures begin { IfSome result (λ word. word.0 ≡ from + prefix_len gap_byte (slice_range text.now from to)) }
-    ensures end { IfSome result (λ word. word.1 ≡ word.0 + position_or_len gap_byte (slice_range text.now word.0 to)) }
+    ensures begin { IfSome result (λ word. word.0 ≡ from + prefix_len is_gap (slice_range text.now from to)) }
+    ensures end { IfSome result (λ word. word.1 ≡ word.0 + position_or_len is_gap (slice_range text.now word.0 to)) }
     ensures words { MatchOption result (words (slice_range text.now from to) ≡ [])
         (λ word. words (slice_range text.now from to)
         ≡ slice_range text.now word.0 word.1 ∷ words (slice_range text.now word.1 to)) }

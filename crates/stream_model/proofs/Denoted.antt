@@ -21,8 +21,8 @@ use Rattle.stream_tokens.proofs.Algebra.{Each-imp}
 use Rattle.stream_model.specs.Terms.{keep, mask_of, restricted, product_of, whole, operands_of, literals_of, term_data, further_summand, summands_of, summands}
 use Rattle.stream_model.specs.Trees.{all_stored, value_term, sum_there}
 use Rattle.stream_model.specs.Joins.{negated, signed, join_of}
-use Rattle.stream_model.proofs.Lists.{Each-map, Each-flat_map, Each-always, list_any-ext-each}
-use Rattle.stream_model.proofs.Stored.{value-unstored}
+use Rattle.sam_model.proofs.Lists.{Each-map, Each-flat_map, Each-always, list_any-ext-each}
+use Rattle.sam_model.proofs.Stored.{value-unstored}
 use Rattle.stream_model.proofs.Sums.{plus-none, where_passes, nothing-passes, sum-passes}
 use Rattle.stream_model.proofs.TermLaw.{term-law}
 use Rattle.stream_model.proofs.Moduli.{mul-mod-mod, mod-mul-mod, negative, total-ext-each, total-mod, total-times}

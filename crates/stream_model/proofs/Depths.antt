@@ -17,7 +17,7 @@ use Rattle.sam_model.specs.Denote.{vars_of, has_var, loops_of, Loop, loop_list}
 use Rattle.sam_model.specs.Accepted.{is_access, term_has, factor_fits, reduces, factor_reduces, term_fits, access_fits, distinct_names, stands, accepted}
 use Rattle.stream_tokens.specs.Shapes.{Each}
 use Rattle.stream_model.specs.Trees.{kept_sizes}
-use Rattle.stream_model.proofs.Lists.{filter-range}
+use Rattle.sam_model.proofs.Lists.{filter-range}
 use Rattle.stream_model.proofs.Places.{accepted-statement, kept-sizes-map}
 use Rattle.stream_model.proofs.Orders.{Rises, Rises-weaker, Rises-range, rises-distinct, not-above}
 

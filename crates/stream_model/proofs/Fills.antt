@@ -9,7 +9,7 @@ use Rattle.stream_model.specs.Grow.{next}
 use Rattle.stream_model.specs.Terms.{TermData, Summand}
 use Rattle.stream_model.specs.Trees.{free_count, value_reduced, reduced_sizes, begins_value, in_pruned, in_term}
 use Rattle.stream_model.specs.Joins.{join_of}
-use Rattle.stream_model.proofs.Lists.{not-true, Each-range, filter-ext, list_any-mono, filter-none}
+use Rattle.sam_model.proofs.Lists.{not-true, Each-range, filter-ext, list_any-mono, filter-none}
 use Rattle.stream_model.proofs.Pruned.{late-test}
 use Rattle.stream_model.proofs.Sides.{begins-shorter, pruned-goes-on}
 use Rattle.stream_model.proofs.Results.{EachSized}

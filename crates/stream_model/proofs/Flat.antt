@@ -4,14 +4,14 @@ use Rattle.std.specs.List.{flat_map, filter}
 use mathlib.Core.List.{map}
 use Rattle.std.proofs.Common.{arith, sym, ◌∙◌, ap, subst}
 use Rattle.std.proofs.lemmas.Grind.{flat_map-append}
+use Rattle.std.proofs.lemmas.List.{map-append}
 use Rattle.std.proofs.lemmas.List.Elements.{filter-append}
-use Rattle.std.proofs.lemmas.List.Folds.{flat_map-map}
 use Rattle.sam_model.specs.Lists.{below, tuples}
 use Rattle.stream_tokens.specs.Nest.{Fiber, spread}
 use Rattle.stream_tokens.specs.Shapes.{on_tokens, beneath_by, under, Each}
-use Rattle.stream_tokens.proofs.Algebra.{map-map}
 use Rattle.stream_model.specs.Grow.{longer, path_fibers}
-use Rattle.stream_model.proofs.Lists.{Each-range, Each-always, Each-map, Each-flat_map, flat_map-ext, map-flat_map, filter-none}
+use Rattle.sam_model.proofs.Lists.{Each-range, filter-map, filter-none}
+use Rattle.sam_model.proofs.Tuples.{followed, tuples-more, tuples-front-long}
 use Rattle.stream_model.proofs.Grown.{path_fibers-suc}
 
 -- ---- the tokens of fibers in a row
@@ -35,75 +35,15 @@ in_order-under {B = B} f (g ∷ fs) =
     ∙ ap (λ (t : List B). flat_map f g.0 ++ t) (in_order-under f fs)
     ∙ sym (flat_map-append f g.0 (in_order fs))
 
-map_both : {A B : Type 0} (f : A → B) (xs ys : List A) → map f (xs ++ ys) ≡ map f xs ++ map f ys
-map_both f [] ys = refl
-map_both {B = B} f (x ∷ xs) ys = ap (λ (t : List B). f x ∷ t) (map_both f xs ys)
-
 pub in_order-tokens : {A B : Type 0} (f : A → B) (fs : List (Fiber A)) → in_order (on_tokens f fs) ≡ map f (in_order fs)
 in_order-tokens f [] = refl
-in_order-tokens {B = B} f (g ∷ fs) = ap (λ (t : List B). map f g.0 ++ t) (in_order-tokens f fs) ∙ sym (map_both f g.0 (in_order fs))
-
--- ---- tuples, one longer
-
--- each coordinate below s, after p
-abbrev pub followed : ℕ → List ℕ → List (List ℕ)
-followed s p = map (λ c. p ++ c ∷ []) (below s)
-
-pub tuples-more : (sizes : List ℕ) (k : ℕ) → k < length sizes → tuples (take (suc k) sizes) ≡ flat_map (followed (slice_index sizes k)) (tuples (take k sizes))
-tuples-more [] k h = absurd (omega (arith, h))
-tuples-more (s ∷ sizes) zero h = singles (below s)
-  where
-    singles : (cs : List ℕ) → flat_map (λ c. map (λ u. c ∷ u) ([] ∷ [])) cs ≡ map (λ c. c ∷ []) cs ++ []
-    singles [] = refl
-    singles (c ∷ cs) = ap (λ (t : List (List ℕ)). (c ∷ []) ∷ t) (singles cs)
-tuples-more (s ∷ sizes) (suc k) h =
-    flat_map-ext (λ c. map (λ u. c ∷ u) (tuples (take (suc k) sizes))) (λ c. flat_map (followed (slice_index sizes k)) (map (λ u. c ∷ u) (tuples (take k sizes))))
-    (headed (tuples-more sizes k (omega (arith, h)))) (below s)
-    ∙ sym (nested (below s))
-  where
-    headed : tuples (take (suc k) sizes) ≡ flat_map (followed (slice_index sizes k)) (tuples (take k sizes)) → (c : ℕ)
-        → map (λ u. c ∷ u) (tuples (take (suc k) sizes)) ≡ flat_map (followed (slice_index sizes k)) (map (λ u. c ∷ u) (tuples (take k sizes)))
-    headed e c =
-        ap (λ (us : List (List ℕ)). map (λ u. c ∷ u) us) e
-        ∙ map-flat_map (λ (u : List ℕ). c ∷ u) (followed (slice_index sizes k)) (tuples (take k sizes))
-        ∙ flat_map-ext (λ p. map (λ (u : List ℕ). c ∷ u) (followed (slice_index sizes k) p)) (λ p. followed (slice_index sizes k) (c ∷ p))
-        (λ p. map-map (λ (u : List ℕ). c ∷ u) (λ d. p ++ d ∷ []) (below (slice_index sizes k))) (tuples (take k sizes))
-        ∙ sym (flat_map-map (followed (slice_index sizes k)) (λ (u : List ℕ). c ∷ u) (tuples (take k sizes)))
-
-    nested : (cs : List ℕ) → flat_map (followed (slice_index sizes k)) (flat_map (λ c. map (λ u. c ∷ u) (tuples (take k sizes))) cs)
-        ≡ flat_map (λ c. flat_map (followed (slice_index sizes k)) (map (λ u. c ∷ u) (tuples (take k sizes)))) cs
-    nested [] = refl
-    nested (c ∷ cs) =
-        flat_map-append (followed (slice_index sizes k)) (map (λ u. c ∷ u) (tuples (take k sizes))) (flat_map (λ c. map (λ u. c ∷ u) (tuples (take k sizes))) cs)
-        ∙ ap (λ (t : List (List ℕ)). flat_map (followed (slice_index sizes k)) (map (λ u. c ∷ u) (tuples (take k sizes))) ++ t) (nested cs)
-
-pub tuples-long : (sizes : List ℕ) → Each (λ p. length p ≡ length sizes) (tuples sizes)
-tuples-long [] = (refl, tt)
-tuples-long (s ∷ sizes) =
-    Each-flat_map (λ (c : ℕ). Unit {0}) (λ p. length p ≡ length (s ∷ sizes)) (λ c. map (λ u. c ∷ u) (tuples sizes))
-    (λ c e. Each-map (λ p. length p ≡ length (s ∷ sizes)) (λ u. c ∷ u) (λ p. length p ≡ length sizes) (λ u e. ap suc e) (tuples sizes) (tuples-long sizes))
-    (below s) (Each-always (λ (c : ℕ). Unit {0}) (λ c. tt) (below s))
-
-length_take : (sizes : List ℕ) (k : ℕ) → k ≤ length sizes → length (take k sizes) ≡ k
-length_take [] zero h = refl
-length_take [] (suc k) h = absurd (omega (arith, h))
-length_take (s ∷ sizes) zero h = refl
-length_take (s ∷ sizes) (suc k) h = ap suc (length_take sizes k (omega (arith, h)))
+in_order-tokens {B = B} f (g ∷ fs) = ap (λ (t : List B). map f g.0 ++ t) (in_order-tokens f fs) ∙ sym (map-append f g.0 (in_order fs))
 
 -- ---- the prefixes of a tree
 
 -- a test that holds of each beginning of what it holds of, within these sizes
 abbrev pub ClosedUnder : (List ℕ → Bool) → List ℕ → Type 0
 ClosedUnder ok sizes = (p : List ℕ) (c : ℕ) → c < slice_index sizes (length p) → ok p ≡ false → ok (p ++ c ∷ []) ≡ false
-
-filter_map : (ok : List ℕ → Bool) (f : ℕ → List ℕ) (cs : List ℕ) → filter ok (map f cs) ≡ map f (filter (λ c. ok (f c)) cs)
-filter_map ok f [] = refl
-filter_map ok f (c ∷ cs) = by_case (ok (f c)) (filter_map ok f cs)
-  where
-    by_case : (b : Bool) → filter ok (map f cs) ≡ map f (filter (λ c. ok (f c)) cs)
-        → cond b (f c ∷ filter ok (map f cs)) (filter ok (map f cs)) ≡ map f (cond b (c ∷ filter (λ c. ok (f c)) cs) (filter (λ c. ok (f c)) cs))
-    by_case true e = ap (λ (t : List (List ℕ)). f c ∷ t) e
-    by_case false e = e
 
 one_more : (ok : List ℕ → Bool) (sizes : List ℕ) (k : ℕ) → ClosedUnder ok sizes → (ps : List (List ℕ)) → Each (λ p. length p ≡ k) ps
     → flat_map (longer ok sizes) (filter ok ps) ≡ filter ok (flat_map (followed (slice_index sizes k)) ps)
@@ -113,11 +53,11 @@ one_more ok sizes k closed (p ∷ ps) h = by_case (ok p) refl (one_more ok sizes
     here : longer ok sizes p ≡ filter ok (followed (slice_index sizes k) p)
     here =
         ap (λ (n : ℕ). map (λ c. p ++ c ∷ []) (filter (λ c. ok (p ++ c ∷ [])) (below (slice_index sizes n)))) h.0
-        ∙ sym (filter_map ok (λ c. p ++ c ∷ []) (below (slice_index sizes k)))
+        ∙ sym (filter-map ok (λ c. p ++ c ∷ []) (below (slice_index sizes k)))
 
     nothing : ok p ≡ false → filter ok (followed (slice_index sizes k) p) ≡ []
     nothing e =
-        filter_map ok (λ c. p ++ c ∷ []) (below (slice_index sizes k))
+        filter-map ok (λ c. p ++ c ∷ []) (below (slice_index sizes k))
         ∙ ap (λ (cs : List ℕ). map (λ c. p ++ c ∷ []) cs) (filter-none (slice_index sizes k) (λ c. ok (p ++ c ∷ [])) (λ c l. closed p c (subst (λ (n : ℕ). c < slice_index sizes n) (sym h.0) l) e) (below (slice_index sizes k))
         (Each-range 0 (slice_index sizes k) (slice_index sizes k) (omega arith)))
 
@@ -140,12 +80,5 @@ flat-paths ok sizes root closed (suc d) h =
     ap in_order (path_fibers-suc ok sizes d)
     ∙ in_order-under (longer ok sizes) (path_fibers ok sizes d)
     ∙ ap (flat_map (longer ok sizes)) (flat-paths ok sizes root closed d (omega (arith, h)))
-    ∙ one_more ok sizes d closed (tuples (take d sizes)) (long (tuples-long (take d sizes)))
+    ∙ one_more ok sizes d closed (tuples (take d sizes)) (tuples-front-long sizes d (omega (arith, h)))
     ∙ ap (filter ok) (sym (tuples-more sizes d (omega (arith, h))))
-  where
-    long : Each (λ p. length p ≡ length (take d sizes)) (tuples (take d sizes)) → Each (λ p. length p ≡ d) (tuples (take d sizes))
-    long e = each_same (tuples (take d sizes)) e
-      where
-        each_same : (ps : List (List ℕ)) → Each (λ p. length p ≡ length (take d sizes)) ps → Each (λ p. length p ≡ d) ps
-        each_same [] e = tt
-        each_same (p ∷ ps) e = (e.0 ∙ length_take sizes d (omega (arith, h)), each_same ps e.1)

@@ -9,7 +9,7 @@ use Rattle.sam_model.specs.Lists.{within}
 use Rattle.stream_tokens.specs.Nest.{Fiber}
 use Rattle.stream_tokens.specs.Shapes.{on_tokens, under, Each, EachToken}
 use Rattle.stream_tokens.proofs.Algebra.{map-map, on_fibers-under, under-ext, EachToken-under, fibers-grown}
-use Rattle.stream_model.proofs.Lists.{Each-always, Each-map, filter-range}
+use Rattle.sam_model.proofs.Lists.{Each-always, Each-map, filter-range}
 use Rattle.stream_model.specs.Grow.{next, longer, paths, path_fibers}
 
 -- ---- one level beneath another

@@ -1,12 +1,10 @@
 mod Spaced
 mod Rows
 mod Worked
-pub mod Lists
 pub mod Grown
 pub mod Streams
 pub mod Products
 pub mod Masks
-pub mod Stored
 pub mod Prefixes
 pub mod Sums
 pub mod TermLaw

@@ -7,7 +7,7 @@ use Rattle.std.proofs.lemmas.Bool.Decides.{nat_tests}
 use Rattle.stream_model.specs.Terms.{Operand, TermData, access_at}
 use Rattle.stream_model.specs.Trees.{admits, all_admit}
 use Rattle.stream_model.specs.Masks.{none, only, any_of, final}
-use Rattle.stream_model.proofs.Lists.{and-true, and-false, or-false}
+use Rattle.sam_model.proofs.Lists.{and-true, and-false, or-false}
 
 -- ---- what a mask admits
 

@@ -11,7 +11,7 @@ use Rattle.sam_model.specs.Lists.{is_in}
 use Rattle.stream_model.specs.Terms.{TermData, access_at}
 use Rattle.stream_model.specs.Labels.{bits}
 use Rattle.stream_model.specs.Masks.{only, any_of, final}
-use Rattle.stream_model.proofs.Lists.{or-false}
+use Rattle.sam_model.proofs.Lists.{or-false}
 use Rattle.stream_model.proofs.Masks.{length-only, bit-only, length-any_of, bit-any_of, mask-ext, bit-final, length-final}
 
 -- ---- the mask of a number

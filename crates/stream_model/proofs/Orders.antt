@@ -11,7 +11,7 @@ use Rattle.sam_model.specs.Lists.{items_at, is_in, coordinate}
 use Rattle.sam_model.specs.Accepted.{distinct, is_order, ascending, ascending_from}
 use Rattle.stream_tokens.specs.Shapes.{Each}
 use Rattle.stream_model.specs.Terms.{keep}
-use Rattle.stream_model.proofs.Lists.{same-test, map-ext-each, filter-ext-each, list_any-map, list_any-mono}
+use Rattle.sam_model.proofs.Lists.{same-test, map-ext-each, filter-ext-each, list_any-map, list_any-mono}
 
 -- ---- an order has every mode
 

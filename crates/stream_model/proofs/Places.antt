@@ -19,7 +19,7 @@ use Rattle.stream_model.specs.Terms.{keep, access_at, mask_of, operands_of, term
 use Rattle.stream_model.specs.Trees.{free_count, kept_sizes, reduced_sizes}
 use Rattle.stream_model.specs.Labels.{loop_sizes, result_sizes}
 use Rattle.stream_model.specs.Masks.{AllFit}
-use Rattle.stream_model.proofs.Lists.{filter-ext}
+use Rattle.sam_model.proofs.Lists.{filter-ext}
 use Rattle.stream_model.proofs.TermLaw.{kept-none}
 use Rattle.stream_model.proofs.Orders.{is_in-items, items_at-map, order-in-range, Rises, rises, Rises-range, filter-members, keep-map, coordinate-map}
 

@@ -6,9 +6,9 @@ use Rattle.std.proofs.lemmas.Bool.{and_from, and_parts}
 use Rattle.sam_model.specs.Tensors.{is_stored}
 use Rattle.stream_model.specs.Terms.{Operand, TermData, keep, restricted, access_at}
 use Rattle.stream_model.specs.Trees.{admits, all_admit, everyone, grows, in_whole, all_stored}
-use Rattle.stream_model.proofs.Lists.{and-true, same-test}
+use Rattle.sam_model.proofs.Lists.{and-true, same-test}
 use Rattle.stream_model.proofs.Masks.{all_admit-gives}
-use Rattle.stream_model.proofs.Stored.{stored-begins}
+use Rattle.sam_model.proofs.Stored.{stored-begins}
 
 pub keep-longer : (mask : List Bool) (u : List ℕ) (c : ℕ) → keep mask (u ++ c ∷ []) ≡ keep mask u ++ cond (get_or mask (length u) false) (c ∷ []) []
 keep-longer [] u c = refl

@@ -14,7 +14,7 @@ use Rattle.stream_model.specs.Grow.{next, longer, path_fibers}
 use Rattle.stream_model.specs.Terms.{Operand, TermData}
 use Rattle.stream_model.specs.Trees.{admits, all_admit, everyone, grows, asked_at, in_product, in_whole}
 use Rattle.stream_model.specs.Masks.{final}
-use Rattle.stream_model.proofs.Lists.{and-true, filter-ext}
+use Rattle.sam_model.proofs.Lists.{and-true, filter-ext}
 use Rattle.stream_model.proofs.Grown.{InTree, tokens-suc, paths-InTree, paths-same}
 
 -- ---- one coordinate more

@@ -11,7 +11,7 @@ use Rattle.stream_tokens.specs.Nest.{Leaf}
 use Rattle.stream_model.specs.Grow.{longer, path_fibers}
 use Rattle.stream_model.specs.Terms.{TermData}
 use Rattle.stream_model.specs.Trees.{in_reduced, value_reduced, reduced_sizes, begins_value, in_pruned}
-use Rattle.stream_model.proofs.Lists.{and-true, or-false, same-test, filter-ext, list_any-ext, list_any-map, list_any-flat_map, list_any-gives}
+use Rattle.sam_model.proofs.Lists.{and-true, or-false, same-test, filter-ext, list_any-ext, list_any-map, list_any-flat_map, list_any-gives}
 use Rattle.stream_model.proofs.Grown.{InTree, paths-same}
 use Rattle.stream_model.proofs.Reduced.{value-begins}
 

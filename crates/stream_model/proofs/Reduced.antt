@@ -15,7 +15,7 @@ use Rattle.stream_model.specs.Terms.{TermData, whole}
 use Rattle.stream_model.specs.Trees.{grows, everyone, in_whole, free_count, kept_loops, kept_sizes, until, plus_there, sum_there, in_reduced, value_whole, value_reduced, reduced_sizes}
 use Rattle.stream_model.specs.Labels.{loop_sizes}
 use Rattle.stream_model.specs.Reduction.{Reduces}
-use Rattle.stream_model.proofs.Lists.{or-false, not-true, map-ext, filter-ext-each, Each-always, list_any-ext, list_any-map, list_any-flat_map, list_any-gives, list_any-mono}
+use Rattle.sam_model.proofs.Lists.{or-false, not-true, map-ext, filter-ext-each, Each-always, list_any-ext, list_any-map, list_any-flat_map, list_any-gives, list_any-mono}
 use Rattle.stream_model.proofs.Grown.{InTree, paths-same}
 use Rattle.stream_model.proofs.Products.{grows-append}
 use Rattle.stream_model.proofs.Sums.{sum-flat_map, is_some-sum}

@@ -19,11 +19,12 @@ use Rattle.stream_model.specs.Terms.{TermData, Summand, term_data, further_summa
 use Rattle.stream_model.specs.Trees.{free_count, value_reduced, reduced_sizes, begins_value, in_pruned, in_term, value_term}
 use Rattle.stream_model.specs.Joins.{join_of}
 use Rattle.stream_model.specs.Labels.{Shape, last, result_sizes, joined_shape, fibers_at}
-use Rattle.stream_model.proofs.Lists.{not-true, map-ext-each, filter-ext, filter-ext-each}
+use Rattle.sam_model.proofs.Lists.{not-true, map-ext-each, filter-ext, filter-ext-each}
 use Rattle.stream_model.proofs.Places.{AllPlaced, accepted-terms, term-sizes}
 use Rattle.stream_model.proofs.Pruned.{late-test, begins-full}
 use Rattle.stream_model.proofs.Denoted.{has_stored, signed_number, EachPlaced, accepted-placed, term-value, join-denotes, term-denotes}
-use Rattle.stream_model.proofs.Flat.{in_order, in_order-tokens, ClosedUnder, tuples-long, flat-paths}
+use Rattle.sam_model.proofs.Tuples.{tuples-long}
+use Rattle.stream_model.proofs.Flat.{in_order, in_order-tokens, ClosedUnder, flat-paths}
 use Rattle.stream_model.proofs.Sides.{pruned-root, pruned-shorter, pruned-closed, term-full, joined-all}
 
 -- ---- lists

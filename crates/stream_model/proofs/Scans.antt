@@ -10,7 +10,7 @@ use Rattle.stream_model.specs.Terms.{Operand, TermData, keep, restricted, access
 use Rattle.stream_model.specs.Trees.{admits, in_whole}
 use Rattle.stream_model.specs.Labels.{loop_sizes}
 use Rattle.stream_model.specs.Masks.{levels_before, AllFit}
-use Rattle.stream_model.proofs.Lists.{filter-ext}
+use Rattle.sam_model.proofs.Lists.{filter-ext}
 use Rattle.stream_model.proofs.Prefixes.{restricted-has, admits-stored, access-stored}
 
 pub keep-length : (mask : List Bool) (u : List ℕ) → length (keep mask u) ≡ levels_before mask (length u)

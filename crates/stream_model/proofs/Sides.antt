@@ -17,7 +17,7 @@ use Rattle.stream_model.specs.declared.labels.Side.TheVariants.{Left, Right}
 use Rattle.stream_model.specs.Terms.{TermData, Summand, no_summand, summand_at}
 use Rattle.stream_model.specs.Trees.{free_count, in_reduced, value_reduced, reduced_sizes, begins_value, in_pruned, in_term, value_term, plus_there, sum_there}
 use Rattle.stream_model.specs.Joins.{negated, signed, join_of, joined, side_part, in_beside}
-use Rattle.stream_model.proofs.Lists.{not-true, or-false, list_any-mono, filter-ext}
+use Rattle.sam_model.proofs.Lists.{not-true, or-false, list_any-mono, filter-ext}
 use Rattle.stream_model.proofs.Grown.{InTree, tokens-suc, paths-InTree, paths-same}
 use Rattle.stream_model.proofs.Sums.{plus-none, sum-append}
 use Rattle.stream_model.proofs.Reduced.{reduced-begins}

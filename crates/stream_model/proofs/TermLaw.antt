@@ -10,8 +10,8 @@ use Rattle.sam_model.specs.Tensors.{is_stored, value_at}
 use Rattle.sam_model.specs.Denote.{Loop, fill}
 use Rattle.stream_model.specs.Terms.{Operand, TermData, restricted, product_of, whole}
 use Rattle.stream_model.specs.Trees.{in_whole, all_stored, free_count, kept_loops, value_whole, sum_there, value_term}
-use Rattle.stream_model.proofs.Lists.{list_any-ext}
-use Rattle.stream_model.proofs.Stored.{value-unstored}
+use Rattle.sam_model.proofs.Lists.{list_any-ext}
+use Rattle.sam_model.proofs.Stored.{value-unstored}
 use Rattle.stream_model.proofs.Prefixes.{whole-stored}
 use Rattle.stream_model.proofs.Sums.{sum-passes}
 

@@ -2,6 +2,7 @@
 use Rattle.std.specs.Prelude.{◌≡◌, ◌⊎◌, ℕ, zero, suc, List, [], ◌∷◌}
 use Rattle.std.specs.List.{flat_map}
 use mathlib.Core.List.{map}
+pub use Rattle.sam_base.specs.Each.{Each}
 use Rattle.stream_tokens.specs.Nest.{Fiber, beneath}
 
 -- each fiber changed, its stop kept
@@ -79,11 +80,6 @@ Positive (f ∷ fs) = ((k : ℕ) × (f.1 ≡ suc k)) × Positive fs
 -- each fiber closes something, or there is one fiber of one element, which closes nothing
 abbrev pub Shaped : {A : Type 0} → List (Fiber A) → Type 0
 Shaped {A = A} fs = Positive fs ⊎ ((x : A) × (fs ≡ ((x ∷ []), 0) ∷ []))
-
--- what holds of each token
-abbrev pub Each : {A : Type 0} → (A → Type 0) → List A → Type 0
-Each Q [] = Unit {0}
-Each Q (x ∷ xs) = Q x × Each Q xs
 
 abbrev pub EachToken : {A : Type 0} → (A → Type 0) → List (Fiber A) → Type 0
 EachToken Q [] = Unit {0}

@@ -7,7 +7,7 @@ use Rattle.sam_model.specs.Children.{children_of}
 use Rattle.levels.specs.declared.level.Level.{Level}
 use Rattle.levels.specs.declared.positions.Positions.{Positions}
 use Rattle.levels.specs.Arrays.{dense_children}
-use Rattle.levels.specs.Each.{Each}
+use Rattle.sam_base.specs.Each.{Each}
 use Rattle.levels.specs.Pairs.{with_pairs}
 use Rattle.levels.specs.Placed.{Placed}
 use Rattle.levels.specs.Rows.{of_rows, row_pairs}

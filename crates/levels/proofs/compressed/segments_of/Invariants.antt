@@ -1,7 +1,7 @@
 use Rattle.std.proofs.Common.{◌≡◌, ◌+◌, ◌<◌, ◌≤◌, length, take, drop}
 use mathlib.Core.List.{map}
 use Rattle.sam_model.specs.Lists.{below}
-use Rattle.levels.specs.Each.{Each}
+use Rattle.sam_base.specs.Each.{Each}
 use Rattle.levels.specs.Pairs.{before}
 use Rattle.levels.proofs.compressed.segments_of.Given as goal
 

@@ -2,6 +2,7 @@
 use Rattle.std.proofs.Common.{◌≡◌, ◌<◌, ◌++◌, [], ◌∷◌, length, sym, arith, rules, ◌∙◌}
 use Rattle.std.proofs.lemmas.List.{take_all}
 use Rattle.std.proofs.lemmas.Grind.{common_steps}
+use Rattle.sam_base.specs.declared.TheConstants.{POSITIONS_MOST}
 use Rattle.levels.specs.Rows.{row_pairs}
 use Rattle.levels.proofs.Growth.{grown-more, many-more, grown-all}
 use Rattle.levels.proofs.RowLemmas.{length-row_pairs, row_pairs-at}
@@ -11,7 +12,7 @@ pub returns-in_err-place_of-clause-many : goal.returns-in_err-place_of-clause-ma
 returns-in_err-place_of-clause-many c =
     let long = length-row_pairs c.args.parents.now c.args.place c.args.rows.now c.requires.all in
     let inside : c.loop-n.n < length (row_pairs c.args.parents.now c.args.place c.args.rows.now) = omega arith in
-    λ e. many-more (row_pairs c.args.parents.now c.args.place c.args.rows.now) c.loop-n.pairs.items c.loop-n.n 16777216 _ inside
+    λ e. many-more (row_pairs c.args.parents.now c.args.place c.args.rows.now) c.loop-n.pairs.items c.loop-n.n POSITIONS_MOST _ inside
     (sym (row_pairs-at c.args.parents.now c.args.place c.args.rows.now c.loop-n.n _ c.requires.all (omega arith)))
     c.loop-n.invariant.pairs (c.in_err-place_of.ensures.many (search rules))
 

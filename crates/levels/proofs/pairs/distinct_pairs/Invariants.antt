@@ -1,7 +1,7 @@
 use Rattle.std.proofs.Common.{◌≡◌, ◌^◌, ◌<◌, ◌≤◌, [], length, take}
 use Rattle.std.specs.Prelude.{slice_index_or}
 use mathlib.Core.List.{map}
-use Rattle.levels.specs.Each.{Each}
+use Rattle.sam_base.specs.Each.{Each}
 use Rattle.levels.specs.Pairs.{with_pairs}
 use Rattle.levels.specs.Rows.{row_pairs}
 use Rattle.levels.proofs.pairs.distinct_pairs.Given as goal

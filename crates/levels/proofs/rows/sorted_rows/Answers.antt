@@ -2,14 +2,13 @@
 use Rattle.std.proofs.Common.{◌≡◌, ◌<◌, [], ◌∷◌, ◌++◌, length, get_or, sym, arith, ◌∙◌, ap, subst, List, ℕ, true, rules}
 use mathlib.Core.List.{map}
 use Rattle.std.specs.List.Sorted.{IsPermutation}
-use Rattle.std.proofs.lemmas.List.{map_push, take_more, take_all}
+use Rattle.std.proofs.lemmas.List.{map_push, take_more, take_all, length-map}
 use Rattle.std.proofs.lemmas.List.Sorted.{IsPermutation-map, answers_always}
 use Rattle.sam_model.specs.Lists.{within, items_at}
 use Rattle.sam_model.specs.Tensors.{stored_as}
+use Rattle.sam_model.proofs.Lists.{Each-weaker}
 use Rattle.levels.specs.declared.rows.Row.{Row}
 use Rattle.levels.specs.Rows.{entry_of}
-use Rattle.levels.proofs.Maps.{Each-weaker}
-use Rattle.levels.proofs.Levels.{length-mapped}
 use Rattle.levels.proofs.EntryLemmas.{entries-fit, length-stored}
 use Rattle.levels.proofs.SortLemmas.{sorted-entries, Each-permutation}
 use Rattle.levels.proofs.rows.sorted_rows.Goals as goal
@@ -46,7 +45,7 @@ returns-clause-sorted c =
     let fit = Each-permutation (λ entry. (length entry.0 ≡ length (items_at c.args.t.now.dims c.args.t.now.order)) × (within (items_at c.args.t.now.dims c.args.t.now.order) entry.0 ≡ true)) ([], 0)
     (stored_as c.args.t.now c.args.entries.now).entries (map (entry_of (length c.args.t.now.order)) c.sort_by_key.new.self.items) (whole c)
     (entries-fit c.args.t.now c.args.entries.now c.requires.storable c.requires.matches) in
-    let sizes = length-mapped (λ m. get_or c.args.t.now.dims m 0) c.args.t.now.order in
+    let sizes = length-map c.args.t.now.order (λ m. get_or c.args.t.now.dims m 0) in
     record {
       formats = (let a = c.requires.storable.formats in let b = c.requires.storable.levels in omega arith);
       long = Each-weaker (λ entry. (length entry.0 ≡ length (items_at c.args.t.now.dims c.args.t.now.order)) × (within (items_at c.args.t.now.dims c.args.t.now.order) entry.0 ≡ true))

@@ -4,8 +4,11 @@ use Rattle.std.specs.List.{flat_map, filter, list_any, range_with_len}
 use mathlib.Core.List.{map}
 use Rattle.std.proofs.Common.{arith, sym, ◌∙◌, ap}
 use Rattle.std.proofs.lemmas.Bool.{or_right}
+use Rattle.std.proofs.lemmas.Grind.{flat_map-append}
+use Rattle.std.proofs.lemmas.List.{map-append}
+use Rattle.std.proofs.lemmas.List.Elements.{filter-append}
 use Rattle.std.proofs.lemmas.List.Folds.{list_any-append}
-use Rattle.stream_tokens.specs.Shapes.{Each}
+use Rattle.sam_base.specs.Each.{Each}
 
 -- ---- tests
 
@@ -69,11 +72,8 @@ flat_map-ext f g h (x ∷ xs) = rw (h x, flat_map-ext f g h xs) refl
 
 pub map-flat_map : {A B C : Type 0} (f : B → C) (g : A → List B) (xs : List A) → map f (flat_map g xs) ≡ flat_map (λ x. map f (g x)) xs
 map-flat_map f g [] = refl
-map-flat_map {C = C} f g (x ∷ xs) = pieces (g x) ∙ ap (λ (t : List C). map f (g x) ++ t) (map-flat_map f g xs)
-  where
-    pieces : (ys : List _) → map f (ys ++ flat_map g xs) ≡ map f ys ++ map f (flat_map g xs)
-    pieces [] = refl
-    pieces (y ∷ ys) = ap (λ (t : List C). f y ∷ t) (pieces ys)
+map-flat_map {C = C} f g (x ∷ xs) =
+    map-append f (g x) (flat_map g xs) ∙ ap (λ (t : List C). map f (g x) ++ t) (map-flat_map f g xs)
 
 pub filter-ext-each : {A : Type 0} (Q : A → Type 0) (p q : A → Bool) → ((x : A) → Q x → p x ≡ q x) → (xs : List A) → Each Q xs → filter p xs ≡ filter q xs
 filter-ext-each Q p q h [] e = refl
@@ -131,3 +131,90 @@ list_any-mono p q h (x ∷ xs) e = by_case (p x) refl e (list_any-mono p q h xs)
     by_case : (c : Bool) → p x ≡ c → (c || list_any p xs) ≡ true → (list_any p xs ≡ true → list_any q xs ≡ true) → (q x || list_any q xs) ≡ true
     by_case true k e r = rw (h x k) refl
     by_case false k e r = ap (λ b. q x || b) (r e) ∙ or_right (q x) true refl
+
+-- ---- more on maps and filters
+
+pub flat_map-ext-each : {A B : Type 0} (Q : A → Type 0) (f g : A → List B) → ((x : A) → Q x → f x ≡ g x) → (xs : List A) → Each Q xs
+    → flat_map f xs ≡ flat_map g xs
+flat_map-ext-each Q f g h [] e = refl
+flat_map-ext-each Q f g h (x ∷ xs) e = rw (h x e.0, flat_map-ext-each Q f g h xs e.1) refl
+
+pub flat_map-flat_map : {A B C : Type 0} (f : B → List C) (g : A → List B) (xs : List A) → flat_map f (flat_map g xs) ≡ flat_map (λ x. flat_map f (g x)) xs
+flat_map-flat_map f g [] = refl
+flat_map-flat_map {C = C} f g (x ∷ xs) =
+    flat_map-append f (g x) (flat_map g xs) ∙ ap (λ (t : List C). flat_map f (g x) ++ t) (flat_map-flat_map f g xs)
+
+pub flat_map-single : {A B : Type 0} (f : A → B) (xs : List A) → flat_map (λ x. f x ∷ []) xs ≡ map f xs
+flat_map-single f [] = refl
+flat_map-single {B = B} f (x ∷ xs) = ap (λ (t : List B). f x ∷ t) (flat_map-single f xs)
+
+pub filter-map : {A B : Type 0} (p : B → Bool) (f : A → B) (xs : List A) → filter p (map f xs) ≡ map f (filter (λ x. p (f x)) xs)
+filter-map p f [] = refl
+filter-map {B = B} p f (x ∷ xs) = by_case (p (f x)) (filter-map p f xs)
+  where
+    by_case : (b : Bool) → filter p (map f xs) ≡ map f (filter (λ x. p (f x)) xs)
+        → cond b (f x ∷ filter p (map f xs)) (filter p (map f xs)) ≡ map f (cond b (x ∷ filter (λ x. p (f x)) xs) (filter (λ x. p (f x)) xs))
+    by_case true e = ap (λ (t : List B). f x ∷ t) e
+    by_case false e = e
+
+pub filter-flat_map : {A B : Type 0} (p : B → Bool) (f : A → List B) (xs : List A) → filter p (flat_map f xs) ≡ flat_map (λ x. filter p (f x)) xs
+filter-flat_map p f [] = refl
+filter-flat_map {B = B} p f (x ∷ xs) =
+    filter-append p (f x) (flat_map f xs) ∙ ap (λ (t : List B). filter p (f x) ++ t) (filter-flat_map p f xs)
+
+-- what adds nothing may be left out
+pub flat_map-filter : {A B : Type 0} (Q : A → Type 0) (p : A → Bool) (f : A → List B) → ((x : A) → Q x → p x ≡ false → f x ≡ []) → (xs : List A) → Each Q xs
+    → flat_map f (filter p xs) ≡ flat_map f xs
+flat_map-filter Q p f none [] h = refl
+flat_map-filter {B = B} Q p f none (x ∷ xs) h = by_case (p x) refl (flat_map-filter Q p f none xs h.1)
+  where
+    by_case : (b : Bool) → p x ≡ b → flat_map f (filter p xs) ≡ flat_map f xs
+        → flat_map f (cond b (x ∷ filter p xs) (filter p xs)) ≡ f x ++ flat_map f xs
+    by_case true e r = ap (λ (t : List B). f x ++ t) r
+    by_case false e r = r ∙ ap (λ (t : List B). t ++ flat_map f xs) (sym (none x h.0 e))
+
+pub filter-none-each : {A : Type 0} (p : A → Bool) (xs : List A) → Each (λ x. p x ≡ false) xs → filter p xs ≡ []
+filter-none-each p [] h = refl
+filter-none-each p (x ∷ xs) h = rw h.0 (filter-none-each p xs h.1)
+
+pub filter-all-each : {A : Type 0} (p : A → Bool) (xs : List A) → Each (λ x. p x ≡ true) xs → filter p xs ≡ xs
+filter-all-each p [] h = refl
+filter-all-each {A = A} p (x ∷ xs) h = rw h.0 (ap (λ (t : List A). x ∷ t) (filter-all-each p xs h.1))
+
+-- ---- more on each item
+
+pub Each-right : {A : Type 0} (Q : A → Type 0) (xs ys : List A) → Each Q (xs ++ ys) → Each Q ys
+Each-right Q [] ys h = h
+Each-right Q (x ∷ xs) ys h = Each-right Q xs ys h.1
+
+pub Each-weaker : {A : Type 0} (P Q : A → Type 0) → ((x : A) → P x → Q x) → (xs : List A) → Each P xs → Each Q xs
+Each-weaker P Q e [] h = tt
+Each-weaker P Q e (x ∷ xs) h = (e x h.0, Each-weaker P Q e xs h.1)
+
+pub Each-both : {A : Type 0} (P Q : A → Type 0) (xs : List A) → Each P xs → Each Q xs → Each (λ x. P x × Q x) xs
+Each-both P Q [] h k = tt
+Each-both P Q (x ∷ xs) h k = ((h.0, k.0), Each-both P Q xs h.1 k.1)
+
+pub Each-filter : {A : Type 0} (Q : A → Type 0) (p : A → Bool) (xs : List A) → Each Q xs → Each Q (filter p xs)
+Each-filter Q p [] h = tt
+Each-filter {A = A} Q p (x ∷ xs) h = by_case (p x) (Each-filter Q p xs h.1)
+  where
+    by_case : (b : Bool) → Each Q (filter p xs) → Each Q (cond b (x ∷ filter p xs) (filter p xs))
+    by_case true r = (h.0, r)
+    by_case false r = r
+
+pub Each-passed : {A : Type 0} (p : A → Bool) (xs : List A) → Each (λ x. p x ≡ true) (filter p xs)
+Each-passed p [] = tt
+Each-passed {A = A} p (x ∷ xs) = by_case (p x) refl (Each-passed p xs)
+  where
+    by_case : (b : Bool) → p x ≡ b → Each (λ x. p x ≡ true) (filter p xs) → Each (λ x. p x ≡ true) (cond b (x ∷ filter p xs) (filter p xs))
+    by_case true e r = (e, r)
+    by_case false e r = r
+
+pub Each-mapped : {A B : Type 0} (Q : B → Type 0) (f : A → B) (xs : List A) → Each (λ x. Q (f x)) xs → Each Q (map f xs)
+Each-mapped Q f [] h = tt
+Each-mapped Q f (x ∷ xs) h = (h.0, Each-mapped Q f xs h.1)
+
+pub filter-never : {A : Type 0} (p : A → Bool) → ((x : A) → p x ≡ false) → (xs : List A) → filter p xs ≡ []
+filter-never p e [] = refl
+filter-never p e (x ∷ xs) = rw (e x) (filter-never p e xs)

@@ -9,7 +9,7 @@ use Rattle.sam_model.specs.declared.tensors.Format.{Format}
 use Rattle.sam_model.specs.declared.tensors.Format.TheVariants.{Dense, Compressed}
 use Rattle.sam_model.specs.Lists.{same_list, total}
 use Rattle.sam_model.specs.Tensors.{Stored, compressed_until, is_stored, value_at}
-use Rattle.stream_model.proofs.Lists.{list_any-mono}
+use Rattle.sam_model.proofs.Lists.{list_any-mono}
 
 -- ---- the last compressed level
 
