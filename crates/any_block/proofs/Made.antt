@@ -10,7 +10,7 @@ use Rattle.graph.specs.declared.graphs.Graph.{Graph}
 use Rattle.graph.specs.Meaning.{meaning}
 use Rattle.graph.specs.Wiring.{no_block, block}
 use Rattle.graph.specs.WholeStreams.{Consistent, whole_inputs}
-use Rattle.graph.specs.Standing.{StandAt, at_start}
+use Rattle.graph.specs.Standing.{StandAt, start_position}
 
 -- a block of this kind, at its start on whole inputs that fit
 pub record IsNew {B : Type 0} (kind : B → Kind) (stands : B → Streams → ℕ → Type 0) (k : Kind) (x : B) : Type 0 where
@@ -46,7 +46,7 @@ module _ {B : Type 0} (kind : B → Kind) (stands : B → Streams → ℕ → Ty
       either b x (inr h) = rw (h.0, m.number, sym h.1) new
 
   pub made_all : (n : ℕ) (blocks : List B) → n ≡ length g.blocks → Made kind stands storages g n blocks → Consistent storages g
-      → StandAt kind stands storages g at_start blocks
+      → StandAt kind stands storages g start_position blocks
   made_all n blocks e m fits = record {
     number = m.number ∙ e;
     kinds = λ b x at. (m.each b x at).same_kind;

@@ -9,7 +9,7 @@ use Rattle.sam_model.specs.Children.{Ranked}
 use Rattle.graph.specs.declared.graphs.Kind.TheVariants.{Root, Scan, Cast, Drain, Intersect, Union, Array, Mul, Fill, WriteLevel, WriteValue}
 use Rattle.graph.specs.declared.graphs.Channel.{Channel}
 use Rattle.graph.specs.declared.graphs.Graph.{Graph}
-use Rattle.graph.specs.Assembly.{KindInRange, InRange, payloads_of, FewPayloads}
+use Rattle.graph.specs.Assembly.{KindInRange, KindsInRange, payloads_of, FewPayloads}
 use Rattle.graph.specs.Writers.{first_block, writes_level, writes_values, level_stream, value_stream, written_listing}
 
 -- 5 at coordinate 1, and 7 at 3
@@ -68,7 +68,7 @@ listed_below = refl
 
 -- ---- what can be assembled
 
-reader_in_range : InRange vectors reader
+reader_in_range : KindsInRange vectors reader
 unfolding reader vectors
 reader_in_range zero h = tt
 reader_in_range (suc zero) h = tt

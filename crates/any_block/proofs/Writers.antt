@@ -21,7 +21,7 @@ use Rattle.graph.specs.declared.graphs.Graph.{Graph}
 use Rattle.graph.specs.Meaning.{meaning}
 use Rattle.graph.specs.Wiring.{no_block, block}
 use Rattle.graph.specs.WholeStreams.{whole_inputs}
-use Rattle.graph.specs.Standing.{StandAt, at_end}
+use Rattle.graph.specs.Standing.{StandAt, final_position}
 use Rattle.graph.specs.Writers.{writes_level, writes_values, first_block, level_stream, value_stream, written_listing}
 
 is_level_writer : (d : ℕ) (k : BlockKind) → writes_level d k ≡ true → k ≡ kind.WriteLevel d
@@ -38,7 +38,7 @@ pub record Ended {B : Type 0} (kind : B → Kind) (stands : B → Streams → �
   pub through : stands x s (length (moves k s))
 
 module _ {B : Type 0} (kind_of : B → Kind) (stands : B → Streams → ℕ → Type 0) (storages : List Ranked) (g : Graph) (blocks : List B)
-    (h : StandAt kind_of stands storages g (at_end storages g) blocks) where
+    (h : StandAt kind_of stands storages g (final_position storages g) blocks) where
   -- the first block of some kind, where it is there
   first_ended : (test : BlockKind → Bool) (k : BlockKind) → ((x : BlockKind) → test x ≡ true → x ≡ k)
       → (x : B) → slice_get blocks (first_block test g) ≡ Some x

@@ -6,9 +6,9 @@ ghost use Rattle.block_core.specs.Kind.{Fits};
 ghost use Rattle.graph.specs.Meaning.{meaning};
 ghost use Rattle.graph.specs.Wiring.{block};
 ghost use Rattle.graph.specs.WholeStreams.{Consistent};
-ghost use Rattle.graph.specs.Standing.{StandAt, at_start};
+ghost use Rattle.graph.specs.Standing.{StandAt, start_position};
 ghost use Rattle.any_block.specs.declared.blocks.AnyBlock.{AnyBlock};
-ghost use Rattle.graph.specs.Assembly.{KindInRange, InRange, payloads_of, FewPayloads};
+ghost use Rattle.graph.specs.Assembly.{KindInRange, KindsInRange, payloads_of, FewPayloads};
 
 use crate::blocks::AnyBlock;
 use alu_array::{Alu, Array, Constant, Op, Root};
@@ -69,11 +69,11 @@ pub fn assemble<'a>(
     g: &Graph,
     storages: &'a [Storage],
 ) -> Result<Vec<AnyBlock<'a>>, AllocError>
-    requires in_range { InRange storages.now g.now }
+    requires in_range { KindsInRange storages.now g.now }
     requires few { FewPayloads g.now }
     ensures number { IfOk result (λ blocks. length blocks.items ≡ length g.now.blocks) }
     ensures kinds { IfOk result (λ blocks. (b : ℕ) (x : AnyBlock) → slice_get blocks.items b ≡ Some x → ⟦<AnyBlock<'a> as BlockStep>⟧.kind x ≡ meaning storages.now (block g.now b).kind) }
-    ensures starts { IfOk result (λ blocks. Consistent storages.now g.now → StandAt ⟦<AnyBlock<'a> as BlockStep>⟧.kind ⟦<AnyBlock<'a> as BlockStep>⟧.stands storages.now g.now at_start blocks.items) }
+    ensures starts { IfOk result (λ blocks. Consistent storages.now g.now → StandAt ⟦<AnyBlock<'a> as BlockStep>⟧.kind ⟦<AnyBlock<'a> as BlockStep>⟧.stands storages.now g.now start_position blocks.items) }
 {
     let mut blocks = Vec::with_capacity(alloc, g.blocks.len())?;
     for block in g.blocks.as_slice() {

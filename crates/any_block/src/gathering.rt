@@ -5,7 +5,7 @@ ghost use Rattle.sam_model.specs.Children.{Ranked};
 ghost use Rattle.block_core.specs.Ports.{Streams, port};
 ghost use Rattle.block_core.specs.Kind.{WriteLevelKind, WriteValueKind, moves};
 ghost use Rattle.block_core.specs.Written.{segs_of, crds_of, vals_of};
-ghost use Rattle.graph.specs.Standing.{StandAt, at_end};
+ghost use Rattle.graph.specs.Standing.{StandAt, final_position};
 ghost use Rattle.graph.specs.Writers.{first_block, writes_level, writes_values, level_stream, value_stream, written_listing};
 
 use crate::blocks::AnyBlock;
@@ -96,8 +96,8 @@ fn level_arrays<'a>(
     blocks: &[AnyBlock<'a>],
     level: u8,
 ) -> Result<(Nums, Nums), AllocError>
-    ensures segs { IfOk result (λ arrays. (storages : List Ranked) → StandAt ⟦<AnyBlock<'a> as BlockStep>⟧.kind ⟦<AnyBlock<'a> as BlockStep>⟧.stands storages g.now (at_end storages g.now) blocks.now → arrays.0 ≡ segs_of level (level_stream storages g.now level)) }
-    ensures crds { IfOk result (λ arrays. (storages : List Ranked) → StandAt ⟦<AnyBlock<'a> as BlockStep>⟧.kind ⟦<AnyBlock<'a> as BlockStep>⟧.stands storages g.now (at_end storages g.now) blocks.now → arrays.1 ≡ crds_of (level_stream storages g.now level)) }
+    ensures segs { IfOk result (λ arrays. (storages : List Ranked) → StandAt ⟦<AnyBlock<'a> as BlockStep>⟧.kind ⟦<AnyBlock<'a> as BlockStep>⟧.stands storages g.now (final_position storages g.now) blocks.now → arrays.0 ≡ segs_of level (level_stream storages g.now level)) }
+    ensures crds { IfOk result (λ arrays. (storages : List Ranked) → StandAt ⟦<AnyBlock<'a> as BlockStep>⟧.kind ⟦<AnyBlock<'a> as BlockStep>⟧.stands storages g.now (final_position storages g.now) blocks.now → arrays.1 ≡ crds_of (level_stream storages g.now level)) }
 {
     match blocks.get(level_writer(g, level)) {
         Some(block) => kept_level(alloc, block),
@@ -107,7 +107,7 @@ fn level_arrays<'a>(
 
 /// The values. Where no block writes them there are none.
 fn value_array<'a>(alloc: Global, g: &Graph, blocks: &[AnyBlock<'a>]) -> Result<Nums, AllocError>
-    ensures { IfOk result (λ vals. (storages : List Ranked) → StandAt ⟦<AnyBlock<'a> as BlockStep>⟧.kind ⟦<AnyBlock<'a> as BlockStep>⟧.stands storages g.now (at_end storages g.now) blocks.now → vals ≡ vals_of (value_stream storages g.now)) }
+    ensures { IfOk result (λ vals. (storages : List Ranked) → StandAt ⟦<AnyBlock<'a> as BlockStep>⟧.kind ⟦<AnyBlock<'a> as BlockStep>⟧.stands storages g.now (final_position storages g.now) blocks.now → vals ≡ vals_of (value_stream storages g.now)) }
 {
     match blocks.get(value_writer(g)) {
         Some(block) => kept_values(alloc, block),
@@ -124,7 +124,7 @@ pub fn gather<'a>(
     blocks: &[AnyBlock<'a>],
     levels: u8,
 ) -> Result<Written, AllocError>
-    ensures written { IfOk result (λ w. (storages : List Ranked) → StandAt ⟦<AnyBlock<'a> as BlockStep>⟧.kind ⟦<AnyBlock<'a> as BlockStep>⟧.stands storages g.now (at_end storages g.now) blocks.now → w ≡ written_listing storages g.now levels) }
+    ensures written { IfOk result (λ w. (storages : List Ranked) → StandAt ⟦<AnyBlock<'a> as BlockStep>⟧.kind ⟦<AnyBlock<'a> as BlockStep>⟧.stands storages g.now (final_position storages g.now) blocks.now → w ≡ written_listing storages g.now levels) }
 {
     let mut segs = Items::new(alloc);
     let mut crds = Items::new(alloc);

@@ -19,9 +19,9 @@ use Rattle.graph.specs.declared.graphs.Block.{Block}
 use Rattle.graph.specs.declared.graphs.Channel.{Channel}
 use Rattle.graph.specs.Meaning.{meaning}
 use Rattle.graph.specs.Wiring.{block, channel, WellFormed}
-use Rattle.graph.specs.Assembly.{KindInRange, InRange, payloads_of, FewPayloads}
+use Rattle.graph.specs.Assembly.{KindInRange, KindsInRange, payloads_of, FewPayloads}
 use Rattle.graph.proofs.Arity.{same-ins, same-outs}
-use Rattle.graph.proofs.Carried.{Carried}
+use Rattle.graph.specs.Laws.{Carried}
 use Rattle.custard_lower.specs.declared.drafts.Made.{Made}
 use Rattle.custard_lower.specs.Drafts.{labels_of, outputs_of, no_label, label_at}
 use Rattle.custard_lower.specs.DraftGraph.{made_at, first_output, readers, has_one, ending, copies, first_copy, ending_kind, graph_of}
@@ -177,7 +177,7 @@ module _ (storages : List Ranked) (stream : Label → List Token) where
 
       -- Each of its blocks gives the streams of the labels at its outputs from those at its inputs.
       pub draft-carried : Carried storages (graph_of made) channel_stream
-      draft-carried = all-blocks made GivesAt draft_gives ending_gives_at
+      draft-carried b l = let g = all-blocks made GivesAt draft_gives ending_gives_at b l in record { fits = g.fits; puts_them = g.made_of }
 
       abbrev KindAt : (Kind → Type 0) → ℕ → Type 0
       KindAt P b = P (block (graph_of made) b).kind
@@ -190,7 +190,7 @@ module _ (storages : List Ranked) (stream : Label → List Token) where
           (λ w l e. subst (λ (x : Block). P x.kind) (sym (block-of-ending made w l e)) (last (length (readers made w))))
 
       -- Its blocks read tensors that are there.
-      pub draft-in-range : InRange storages (graph_of made)
+      pub draft-in-range : KindsInRange storages (graph_of made)
       draft-in-range = all_kinds (KindInRange storages) (λ b l. (typed_block b l).in_range) (ending_in_range storages)
 
       -- They bring few payloads together.

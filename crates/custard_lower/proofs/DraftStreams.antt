@@ -13,7 +13,8 @@ use Rattle.graph.specs.declared.graphs.Block.{Block}
 use Rattle.graph.specs.Wiring.{no_block, block, channel, WellFormed}
 use Rattle.graph.specs.WholeStreams.{whole_stream, whole_inputs, Consistent}
 use Rattle.graph.specs.Writers.{writes_level, writes_values, first_block}
-use Rattle.graph.proofs.Carried.{Carried, carried-whole, carried-inputs, carried-consistent}
+use Rattle.graph.specs.Laws.{Carried}
+use Rattle.graph.proofs.Carried.{carried-whole, carried-inputs, carried-consistent}
 use Rattle.custard_lower.specs.declared.drafts.Made.{Made}
 use Rattle.custard_lower.specs.Drafts.{labels_of}
 use Rattle.custard_lower.specs.DraftGraph.{no_made, made_at, readers, ending_kind, graph_of}

@@ -17,7 +17,7 @@ use Rattle.stream_model.specs.declared.labels.Attr.{Attr}
 use Rattle.stream_model.specs.declared.labels.Attr.TheVariants.{Coordinate, Value, Present}
 use Rattle.stream_model.specs.Grow.{next, path_fibers}
 use Rattle.stream_model.specs.Terms.{Summand}
-use Rattle.stream_model.specs.Joins.{Part, joined, side_part}
+use Rattle.stream_model.specs.Joins.{Part, join_upto, side_part}
 use Rattle.stream_model.specs.Labels.{Shape, last, token, joined_shape, beside_shape, stream_at}
 use Rattle.sam_model.proofs.Lists.{Each-range, map-ext, map-ext-each, filter-none}
 use Rattle.stream_model.proofs.Grown.{InTree, each-next, under-same, tokens-suc, paths-InTree}
@@ -43,13 +43,13 @@ use Rattle.custard_lower.proofs.JoinSides.{sized-before, joined-root, side-close
 
 -- Where the items of a side tell lists that aren't empty, and the other items empty ones, the lists that wide items tell
 -- are, without the empty ones, those of the side's items among joined ones.
-kept_alike : {A : Type 0} (Q : A → Type 0) (wide side joined : A → Bool) (g : A → List ℕ)
-    → ((a : A) → Q a → side a ≡ true → (wide a ≡ true) × (joined a ≡ true) × (is_nonempty (g a) ≡ true))
+kept_alike : {A : Type 0} (Q : A → Type 0) (wide side outer : A → Bool) (g : A → List ℕ)
+    → ((a : A) → Q a → side a ≡ true → (wide a ≡ true) × (outer a ≡ true) × (is_nonempty (g a) ≡ true))
     → ((a : A) → Q a → side a ≡ false → g a ≡ [])
-    → (xs : List A) → Each Q xs → filter is_nonempty (map g (filter wide xs)) ≡ map g (filter side (filter joined xs))
-kept_alike Q wide side joined g some none [] e = refl
-kept_alike {A = A} Q wide side joined g some none (a ∷ xs) e =
-    by_case (side a) refl (kept_alike Q wide side joined g some none xs e.1)
+    → (xs : List A) → Each Q xs → filter is_nonempty (map g (filter wide xs)) ≡ map g (filter side (filter outer xs))
+kept_alike Q wide side outer g some none [] e = refl
+kept_alike {A = A} Q wide side outer g some none (a ∷ xs) e =
+    by_case (side a) refl (kept_alike Q wide side outer g some none xs e.1)
   where
     one_fewer : g a ≡ [] → (b : Bool) (ys : List A)
         → filter is_nonempty (map g (cond b (a ∷ ys) ys)) ≡ filter is_nonempty (map g ys)
@@ -60,14 +60,14 @@ kept_alike {A = A} Q wide side joined g some none (a ∷ xs) e =
     not_there h true ys = ap (λ b. cond b (a ∷ filter side ys) (filter side ys)) h
     not_there h false ys = refl
 
-    by_case : (b : Bool) → side a ≡ b → filter is_nonempty (map g (filter wide xs)) ≡ map g (filter side (filter joined xs))
+    by_case : (b : Bool) → side a ≡ b → filter is_nonempty (map g (filter wide xs)) ≡ map g (filter side (filter outer xs))
         → filter is_nonempty (map g (cond (wide a) (a ∷ filter wide xs) (filter wide xs)))
-        ≡ map g (filter side (cond (joined a) (a ∷ filter joined xs) (filter joined xs)))
+        ≡ map g (filter side (cond (outer a) (a ∷ filter outer xs) (filter outer xs)))
     by_case true s r =
         let there = some a e.0 s in
         rw (there.0, there.1, there.2, s) (ap (λ (ys : List (List ℕ)). g a ∷ ys) r)
     by_case false s r =
-        one_fewer (none a e.0 s) (wide a) (filter wide xs) ∙ r ∙ ap (map g) (sym (not_there s (joined a) (filter joined xs)))
+        one_fewer (none a e.0 s) (wide a) (filter wide xs) ∙ r ∙ ap (map g) (sym (not_there s (outer a) (filter outer xs)))
 
 -- ---- trees that are cut
 
@@ -102,7 +102,7 @@ module _ (sizes : List ℕ) (ss : List Summand) (n : ℕ) (side : Side) (e : ℕ
 
   -- the prefixes of the join that are e long
   abbrev outer : List (Fiber (List ℕ))
-  outer = path_fibers (joined ss n).has sizes e
+  outer = path_fibers (join_upto ss n).has sizes e
 
   -- an item for each of them that the side has
   abbrev presence : List (Fiber Leaf)
@@ -148,7 +148,7 @@ module _ (sizes : List ℕ) (ss : List Summand) (n : ℕ) (side : Side) (e : ℕ
       contents-under (told x) (path_fibers wide.ok sizes e)
       ∙ ap (λ (ps : List (List ℕ)). filter is_nonempty (map (told x) ps))
       (flat-paths wide.ok sizes w.root w.closed e (omega (arith, above)))
-      ∙ kept_alike (λ p. length p ≡ e) wide.ok part.has (joined ss n).has (told x)
+      ∙ kept_alike (λ p. length p ≡ e) wide.ok part.has (join_upto ss n).has (told x)
       (λ p k h. (
         wide_has wide w p k h,
         side-within ss n side inside p h,
@@ -156,7 +156,7 @@ module _ (sizes : List ℕ) (ss : List Summand) (n : ℕ) (side : Side) (e : ℕ
       ))
       (λ p k h. told_none x p h) (tuples (take e sizes)) long
       ∙ ap (λ (ps : List (List ℕ)). map (told x) (filter part.has ps))
-      (sym (flat-paths (joined ss n).has sizes (joined-root ss n inside)
+      (sym (flat-paths (join_upto ss n).has sizes (joined-root ss n inside)
       (join-closed sizes (take (suc n) ss) (sized-before sizes ss (suc n) sized)) e (omega (arith, above))))
 
   port_laid : (x : List ℕ → ℕ) → laid presence (map (told x) sided) ≡ under (told x) outer
@@ -187,7 +187,7 @@ module _ (sizes : List ℕ) (ss : List Summand) (n : ℕ) (side : Side) (e : ℕ
       (suc payloads)
       (λ i b. ap (flat Item) (ap (laid presence) (port_contents (wide (0 + i)) (w (0 + i)) (x (0 + i))) ∙ port_laid (x (0 + i)))))
       (fill-gives payloads presence port (map (λ p. length (next part.has sizes p)) sided)
-      (Positive-on_fibers (map (marked_by part.has (λ _. 1))) outer (positive_level (joined ss n).has sizes e some))
+      (Positive-on_fibers (map (marked_by part.has (λ _. 1))) outer (positive_level (join_upto ss n).has sizes e some))
       (λ p. Positive-under (told (x p)) (path_fibers (wide p).ok sizes e))
       (λ p. ap (map (λ (xs : List ℕ). length xs)) (port_contents (wide p) (w p) (x p)) ∙ port_sizes (x p) sided)
       (length-map sided (λ p. length (next part.has sizes p)) ∙ sym (present-side part.has (λ _. 1) outer))
@@ -237,9 +237,9 @@ module _ (sizes : List ℕ) (ss : List Summand) (n : ℕ) (side : Side) (e : ℕ
       stream_at-flat b a
       ∙ ap (flat leaf)
       (beside-tokens sizes ss n side e (token b a) (joined-root ss n inside)
-      ∙ under-ext (InTree (joined ss n).has sizes e) (λ p. map (λ c. token b a (p ++ c ∷ [])) (next part.has sizes p))
+      ∙ under-ext (InTree (join_upto ss n).has sizes e) (λ p. map (λ c. token b a (p ++ c ∷ [])) (next part.has sizes p))
       (λ p. map (λ (y : ℕ). Some y) (told x p)) (λ p i. told_numbers (token b a) x h p i.count)
-      outer (paths-InTree (joined ss n).has sizes (joined-root ss n inside) e))
+      outer (paths-InTree (join_upto ss n).has sizes (joined-root ss n inside) e))
       ∙ items_under x outer
 
   stream_of : (wide : Shape) → Widens part sizes e wide → length sizes < 9 → (a : Attr) → IsStream (stream_at wide a)

@@ -16,7 +16,7 @@ use Rattle.stream_model.specs.declared.labels.Attr.TheVariants.{Coordinate, Valu
 use Rattle.stream_model.specs.Grow.{path_fibers}
 use Rattle.stream_model.specs.Terms.{TermData, Summand, no_summand, summand_at}
 use Rattle.stream_model.specs.Trees.{free_count, reduced_sizes, in_term, value_term}
-use Rattle.stream_model.specs.Joins.{Part, negated, signed, join_of, joined, side_part, in_beside}
+use Rattle.stream_model.specs.Joins.{Part, negated, signed, join_of, join_upto, side_part, in_beside}
 use Rattle.stream_model.specs.Labels.{Shape, last, reduced_shape, joined_shape, beside_shape, stream_at}
 use Rattle.sam_model.proofs.Lists.{or-false, list_any-ext-each, list_any-map}
 use Rattle.stream_model.proofs.Grown.{tokens-suc}
@@ -47,7 +47,7 @@ join-root (s ∷ ss) h =
     or_left (in_term s.term []) ((join_of ss).has []) (pruned-root s.term (free_count s.term.loops) 1 (omega arith))
 
 -- so a join up to a term has it
-pub joined-root : (ss : List Summand) (last : ℕ) → last < length ss → (joined ss last).has [] ≡ true
+pub joined-root : (ss : List Summand) (last : ℕ) → last < length ss → (join_upto ss last).has [] ≡ true
 joined-root ss last h = join-root (take (suc last) ss) (omega (arith, h, length-take-le (suc last) ss (omega (arith, h))))
 
 signed_there : (s : Summand) (p : List ℕ) → is_some (signed s p) ≡ is_some (value_term s.term p)
@@ -82,7 +82,7 @@ side-closed sizes ss last Right e h =
 
 -- what a side has, the join has
 pub side-within : (ss : List Summand) (last : ℕ) (side : Side) → last < length ss → (p : List ℕ)
-    → (side_part ss last side).has p ≡ true → (joined ss last).has p ≡ true
+    → (side_part ss last side).has p ≡ true → (join_upto ss last).has p ≡ true
 side-within ss last Left h p k =
     joined-has ss last p h ∙ or_left ((side_part ss last Left).has p) ((side_part ss last Right).has p) k
 side-within ss last Right h p k =
@@ -171,9 +171,9 @@ module _ (sizes : List ℕ) (ss : List Summand) where
   pub join-first : (n : ℕ) → suc n < length ss → SameLevel (joined_shape sizes ss n 1) (beside_shape sizes ss (suc n) Left 1)
   join-first n h = (
     stream_at-flat (joined_shape sizes ss n 1) Coordinate
-        ∙ first_beside (suc n) Left (joined ss n) (λ p. Some (last p)) h refl
+        ∙ first_beside (suc n) Left (join_upto ss n) (λ p. Some (last p)) h refl
         ∙ sym (stream_at-flat (beside_shape sizes ss (suc n) Left 1) Coordinate),
     stream_at-flat (joined_shape sizes ss n 1) Value
-        ∙ first_beside (suc n) Left (joined ss n) (joined ss n).value h refl
+        ∙ first_beside (suc n) Left (join_upto ss n) (join_upto ss n).value h refl
         ∙ sym (stream_at-flat (beside_shape sizes ss (suc n) Left 1) Value),
   )

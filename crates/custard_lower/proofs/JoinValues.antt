@@ -12,7 +12,7 @@ use Rattle.stream_model.specs.declared.labels.Side.TheVariants.{Left, Right}
 use Rattle.stream_model.specs.declared.labels.Attr.TheVariants.{Coordinate, Value, SideValue}
 use Rattle.stream_model.specs.Terms.{Summand, summand_at}
 use Rattle.stream_model.specs.Trees.{plus_there}
-use Rattle.stream_model.specs.Joins.{negated, joined, side_part}
+use Rattle.stream_model.specs.Joins.{negated, join_upto, side_part}
 use Rattle.stream_model.specs.Labels.{joined_shape}
 use Rattle.stream_model.proofs.Sides.{joined-value}
 use Rattle.stream_model.proofs.Results.{EachSized}
@@ -49,7 +49,7 @@ joining_is false a b = plus-combined a b
 -- the value of a join, from those of its sides
 pub joined-combined : (ss : List Summand) (n : ℕ) → n < length ss → (p : List ℕ)
     → combine (joining (summand_at ss n).minus) ((side_part ss n Left).value p) ((side_part ss n Right).value p)
-    ≡ (joined ss n).value p
+    ≡ (join_upto ss n).value p
 joined-combined ss n inside p =
     joining_is (summand_at ss n).minus ((side_part ss n Left).value p) ((side_part ss n Right).value p)
     ∙ sym (joined-value ss n p inside)

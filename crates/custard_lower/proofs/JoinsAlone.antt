@@ -12,7 +12,7 @@ use Rattle.stream_model.specs.declared.labels.Side.TheVariants.{Left}
 use Rattle.stream_model.specs.declared.labels.Attr.TheVariants.{Value}
 use Rattle.stream_model.specs.Terms.{TermData, Summand, summand_at}
 use Rattle.stream_model.specs.Trees.{free_count, value_term}
-use Rattle.stream_model.specs.Joins.{negated, join_of, joined, side_part}
+use Rattle.stream_model.specs.Joins.{negated, join_of, join_upto, side_part}
 use Rattle.stream_model.specs.Labels.{reduced_shape, joined_shape, stream_at}
 use Rattle.stream_model.proofs.Sides.{joined-first}
 use Rattle.custard_lower.proofs.ItemStreams.{gives-same}
@@ -50,14 +50,14 @@ module _ (ss : List Summand) (n : ℕ) (later : 0 < n) (inside : n < length ss) 
   abbrev Joins : Operation → Type 0
   Joins op = Gives (AluKind op) (joined_alone ss (n - 1) ∷ term_alone (summand_at ss n).term ∷ []) (joined_alone ss n ∷ [])
 
-  value_before : (joined ss (n - 1)).value [] ≡ (side_part ss n Left).value []
+  value_before : (join_upto ss (n - 1)).value [] ≡ (side_part ss n Left).value []
   value_before = let e : suc (n - 1) ≡ n = omega (arith, later) in ap (λ (k : ℕ). (join_of (take k ss)).value []) e
 
   joins : Joins (joining (summand_at ss n).minus)
   joins =
       let op : Operation = joining (summand_at ss n).minus in
       let own : Leaf = value_term (summand_at ss n).term [] in
-      alone_gives op ((joined ss (n - 1)).value []) own ((joined ss n).value [])
+      alone_gives op ((join_upto ss (n - 1)).value []) own ((join_upto ss n).value [])
       (ap (λ (o : Leaf). combine op o own) value_before ∙ joined-combined ss n inside [])
 
   -- the values of the terms before one and its own give theirs together by a sum, where it is added

@@ -24,6 +24,7 @@ use Rattle.stream_model.specs.Labels.{loop_sizes}
 use Rattle.sam_model.proofs.Lists.{filter-range}
 use Rattle.stream_model.proofs.Places.{accepted-operands, declared-at, term-fit}
 use Rattle.stream_model.proofs.Depths.{term-few, term-shallow}
+use Rattle.stream_model.proofs.Prefixes.{keep-none}
 use Rattle.graph.specs.Meaning.{stored_at}
 use Rattle.custard_lower.specs.Plans.{no_access, accesses_of, has_literal, plan_of}
 use Rattle.custard_lower.specs.Lowered.{storages_of}
@@ -188,10 +189,6 @@ first_access ts sizes stored loops (Access n vars ∷ factors) e k = record {
 }
 first_access ts sizes stored loops (Literal n ∷ factors) e k = first_access ts sizes stored loops factors e k
 
-keep_none : (mask : List Bool) → keep mask [] ≡ []
-keep_none [] = refl
-keep_none (b ∷ mask) = refl
-
 some_sizes : (t : Tensor) → is_operand t ≡ true → 0 < length (items_at t.dims t.order)
 some_sizes t e =
     let a = and_parts (nat_le 1 (length t.dims)) (is_well_formed t) e in
@@ -203,7 +200,7 @@ some_sizes t e =
 some_loops : (loops : List Loop) (a : Operand) → keep a.has (loop_sizes loops) ≡ a.tensor.sizes → 0 < length a.tensor.sizes
     → 0 < length loops
 some_loops [] a fit some =
-    let none : length a.tensor.sizes ≡ 0 = ap (λ (s : List ℕ). length s) (sym fit ∙ keep_none a.has) in
+    let none : length a.tensor.sizes ≡ 0 = ap (λ (s : List ℕ). length s) (sym fit ∙ keep-none a.has) in
     absurd (omega (arith, none, some))
 some_loops (l ∷ loops) a fit some = omega arith
 

@@ -21,7 +21,7 @@ use Rattle.stream_model.specs.declared.labels.Attr.{Attr}
 use Rattle.stream_model.specs.declared.labels.Attr.TheVariants.{Coordinate, Present, Literal}
 use Rattle.stream_model.specs.Grow.{next, path_fibers}
 use Rattle.stream_model.specs.Terms.{Summand}
-use Rattle.stream_model.specs.Joins.{joined, side_part, in_beside}
+use Rattle.stream_model.specs.Joins.{join_upto, side_part, in_beside}
 use Rattle.stream_model.specs.Labels.{Shape, joined_shape, beside_shape, last, token, stream_at}
 use Rattle.sam_model.proofs.Lists.{Each-always, Each-map, map-ext, filter-ext}
 use Rattle.stream_model.proofs.Grown.{InTree, under-same, paths-InTree}
@@ -84,11 +84,11 @@ module _ (sizes : List ℕ) (ss : List Summand) (n : ℕ) where
 
 -- where there are so many terms
 module _ (sizes : List ℕ) (ss : List Summand) (n : ℕ) (inside : n < length ss) where
-  root : (joined ss n).has [] ≡ true
+  root : (join_upto ss n).has [] ≡ true
   root = joined-root ss n inside
 
   abbrev prefixes : ℕ → List (Fiber (List ℕ))
-  prefixes d = path_fibers (joined ss n).has sizes d
+  prefixes d = path_fibers (join_upto ss n).has sizes d
 
   abbrev has : Side → List ℕ → Bool
   has side = (side_part ss n side).has
@@ -142,13 +142,13 @@ module _ (sizes : List ℕ) (ss : List Summand) (n : ℕ) (inside : n < length s
 
     -- what both sides give beneath a prefix follows it in the join
     heads_unite : (p : List ℕ) → length p ≡ d
-        → unite 1 1 (heads Left told_left p) (heads Right told_right p) ≡ followers (joined ss n).has sizes told p
+        → unite 1 1 (heads Left told_left p) (heads Right told_right p) ≡ followers (join_upto ss n).has sizes told p
     heads_unite p h =
         unite-ranges (λ c. told_left (p ++ c ∷ []) ∷ []) (λ c. told_right (p ++ c ∷ []) ∷ [])
         (λ c. has Left (p ++ c ∷ [])) (λ c. has Right (p ++ c ∷ [])) size 1 1
         ∙ map-ext (head padded_both) (head (λ c. told (p ++ c ∷ []))) one (filter has_either (below size))
         ∙ ap (map (head (λ c. told (p ++ c ∷ []))))
-        (filter-ext has_either (λ c. (joined ss n).has (p ++ c ∷ []))
+        (filter-ext has_either (λ c. (join_upto ss n).has (p ++ c ∷ []))
         (λ c. sym (joined-has ss n (p ++ c ∷ []) inside)) (below size))
       where
         size : ℕ
@@ -178,10 +178,10 @@ module _ (sizes : List ℕ) (ss : List Summand) (n : ℕ) (inside : n < length s
         ≡ on_tokens (path_head told) (prefixes (suc d))
     all_unite =
         both-under (unite 1 1) (heads Left told_left) (heads Right told_right) refl (prefixes d)
-        ∙ under-ext (InTree (joined ss n).has sizes d) (λ p. unite 1 1 (heads Left told_left p) (heads Right told_right p))
-        (followers (joined ss n).has sizes told) (λ p i. heads_unite p i.count) (prefixes d)
-        (paths-InTree (joined ss n).has sizes root d)
-        ∙ sym (followers-beneath (joined ss n).has sizes d told)
+        ∙ under-ext (InTree (join_upto ss n).has sizes d) (λ p. unite 1 1 (heads Left told_left p) (heads Right told_right p))
+        (followers (join_upto ss n).has sizes told) (λ p i. heads_unite p i.count) (prefixes d)
+        (paths-InTree (join_upto ss n).has sizes root d)
+        ∙ sym (followers-beneath (join_upto ss n).has sizes d told)
 
     -- each head has one payload, and they ascend
     wide : (side : Side) (x : List ℕ → Leaf) (p : List ℕ) → Each (λ (h : Head). length h.1 ≡ 1) (heads side x p)

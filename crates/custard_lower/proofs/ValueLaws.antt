@@ -17,7 +17,7 @@ use Rattle.block_core.proofs.Given.{Gives, gives, const-gives, alu-over}
 use Rattle.stream_model.specs.declared.labels.Attr.{Attr}
 use Rattle.stream_model.specs.declared.labels.Attr.TheVariants.{Coordinate, Rank, FactorValue, Partial, Whole, Literal}
 use Rattle.stream_model.specs.Grow.{paths, path_fibers}
-use Rattle.stream_model.specs.Terms.{Operand, TermData, restricted, access_at, partial}
+use Rattle.stream_model.specs.Terms.{Operand, TermData, restricted, access_at, partial_product}
 use Rattle.stream_model.specs.Labels.{Shape, root_shape, product_shape, last, token, stream_at}
 use Rattle.stream_model.proofs.Grown.{EachToken-always}
 use Rattle.stream_model.proofs.Bridges.{root-rank, partial-more, whole-partial, whole-plain}
@@ -72,7 +72,7 @@ combined-gives op s a b c h e =
 -- ---- products
 
 one_factor : (accesses : List Operand) (p : List ℕ) → 0 < length accesses
-    → value_at (access_at accesses 0).tensor (restricted (access_at accesses 0) p) ≡ partial (take 1 accesses) p
+    → value_at (access_at accesses 0).tensor (restricted (access_at accesses 0) p) ≡ partial_product (take 1 accesses) p
 one_factor [] p h = absurd (omega (arith, h))
 one_factor (a ∷ accesses) p h = sym (ap (λ (n : ℕ). n % 2 ^ 64) (mul-one _) ∙ mod-mod _ (2 ^ 64))
 
@@ -117,10 +117,10 @@ constant-on s c h all = constant_beside s Coordinate last c h (λ p. refl) (λ p
 -- a constant beside each product
 pub constant-gives : (t : TermData) (d c k : ℕ) (mask : List Bool) → d ≤ 200
     → Gives (ConstKind c) (product_stream t d mask (Partial k) ∷ []) (product_stream t d mask (Literal c) ∷ [])
-constant-gives t d c k mask h = constant_beside (product_shape t d mask) (Partial k) (partial (take k t.accesses)) c h (λ p. refl) (λ p. refl)
+constant-gives t d c k mask h = constant_beside (product_shape t d mask) (Partial k) (partial_product (take k t.accesses)) c h (λ p. refl) (λ p. refl)
 
-all_factors : (t : TermData) (p : List ℕ) → partial (take (length t.accesses) t.accesses) p ≡ partial t.accesses p
-all_factors t p = ap (λ (accesses : List Operand). partial accesses p) (take_all (length t.accesses) t.accesses (omega arith))
+all_factors : (t : TermData) (p : List ℕ) → partial_product (take (length t.accesses) t.accesses) p ≡ partial_product t.accesses p
+all_factors t p = ap (λ (accesses : List Operand). partial_product accesses p) (take_all (length t.accesses) t.accesses (omega arith))
 
 -- the product of all factors with the term's coefficient
 pub whole-gives : (t : TermData) (d : ℕ) (mask : List Bool) → d ≤ 200

@@ -14,7 +14,7 @@ use Rattle.sam_model.specs.Listing.{InRange, listing}
 use Rattle.block_core.specs.Written.{segs_of, crds_of, vals_of}
 use Rattle.stream_model.specs.declared.labels.Attr.TheVariants.{Coordinate, Value}
 use Rattle.stream_model.specs.Terms.{Summand, summands}
-use Rattle.stream_model.specs.Joins.{Part, join_of, joined}
+use Rattle.stream_model.specs.Joins.{Part, join_of, join_upto}
 use Rattle.stream_model.specs.Labels.{joined_shape, result_sizes, stream_at}
 use Rattle.stream_model.proofs.Denoted.{join-denotes}
 use Rattle.stream_model.proofs.Sides.{joined-all}
@@ -49,7 +49,7 @@ module _ (p : Program) (es : List Entries) (n : ℕ)
 
   -- the join of all terms
   abbrev join : Part
-  join = joined ss n
+  join = join_upto ss n
 
   same_count : suc n ≡ length ss
   same_count = all ∙ sym (length-summands p es p.terms)

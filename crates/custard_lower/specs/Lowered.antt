@@ -6,12 +6,12 @@ use Rattle.sam_model.specs.declared.tensors.Written.{Written}
 use Rattle.sam_model.specs.declared.program.Program.{Program}
 use Rattle.sam_model.specs.Children.{Ranked, ranked}
 use Rattle.sam_model.specs.Denote.{stored_of, result_entries}
-use Rattle.sam_model.specs.Listing.{InRange as InRangeOf, listing}
+use Rattle.sam_model.specs.Listing.{InRange, listing}
 use Rattle.stream_model.specs.Labels.{result_sizes, label_stream}
 use Rattle.graph.specs.declared.graphs.Graph.{Graph}
 use Rattle.graph.specs.Wiring.{WellFormed, channel}
 use Rattle.graph.specs.WholeStreams.{whole_stream, Consistent}
-use Rattle.graph.specs.Assembly.{InRange, FewPayloads}
+use Rattle.graph.specs.Assembly.{KindsInRange, FewPayloads}
 use Rattle.graph.specs.Writers.{written_listing}
 use Rattle.custard_lower.specs.DraftGraph.{graph_of}
 use Rattle.custard_lower.specs.Lowering.{draft}
@@ -31,10 +31,10 @@ written_of p g es = written_listing (storages_of p es) g (length (result_sizes p
 -- Over a list of entries for each tensor: the graph reads what is stored, all streams fit together, over each channel passes
 -- what its label says, and what the writers leave is the result with its pattern's coordinates and their numbers.
 pub record Carries (p : Program) (g : Graph) (es : List Entries) : Type 0 where
-  pub in_range : InRange (storages_of p es) g
+  pub in_range : KindsInRange (storages_of p es) g
   pub consistent : Consistent (storages_of p es) g
   pub labels : (c : ℕ) → c < length g.channels → whole_stream (storages_of p es) g c ≡ label_stream p es (channel g c).label
-  pub written_in_range : InRangeOf (length (result_sizes p)) (written_of p g es)
+  pub written_in_range : InRange (length (result_sizes p)) (written_of p g es)
   pub written_tensor : listing (written_of p g es) ≡ result_entries p es
 
 -- the graph of a program, whatever its tensors have

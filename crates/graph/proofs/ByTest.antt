@@ -6,7 +6,7 @@ use Rattle.block_core.specs.Kind.{ins_of, outs_of}
 use Rattle.graph.specs.declared.graphs.Graph.{Graph}
 use Rattle.graph.specs.Meaning.{meaning}
 use Rattle.graph.specs.Wiring.{block, channel, into, out_of, Rises, WellFormed}
-use Rattle.graph.specs.Joined.{Joined}
+use Rattle.graph.specs.Joined.{IsJoined}
 use Rattle.graph.proofs.Formed.{well-formed}
 
 -- a test of each number below n
@@ -58,7 +58,7 @@ tested a b c e =
     (parts.0, more.0, more.1)
 
 pub joined-from : (g : Graph) → all_below (length g.blocks) (fits g) ≡ true → all_below (length g.channels) (is_received g) ≡ true
-    → all_below (length g.channels) (is_sent g) ≡ true → Joined g
+    → all_below (length g.channels) (is_sent g) ≡ true → IsJoined g
 joined-from g e r s = record {
   blocks = λ b l.
       let t = tested _ _ _ (below-all (length g.blocks) (fits g) e b l) in

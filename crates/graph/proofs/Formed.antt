@@ -2,9 +2,9 @@
 use Rattle.std.specs.Prelude.{ℕ}
 use Rattle.graph.specs.declared.graphs.Graph.{Graph}
 use Rattle.graph.specs.Wiring.{Rises, WellFormed}
-use Rattle.graph.specs.Joined.{Joined}
+use Rattle.graph.specs.Joined.{IsJoined}
 
-pub well-formed : (g : Graph) → Joined g → (rank : ℕ → ℕ) → Rises g rank → WellFormed g
+pub well-formed : (g : Graph) → IsJoined g → (rank : ℕ → ℕ) → Rises g rank → WellFormed g
 well-formed g joined rank rises = record {
   ins_number = λ b l. (joined.blocks b l).ins_number;
   outs_number = λ b l. (joined.blocks b l).outs_number;

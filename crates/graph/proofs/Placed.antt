@@ -10,9 +10,9 @@ use Rattle.graph.specs.declared.graphs.Graph.{Graph}
 use Rattle.graph.specs.declared.order.Progress.{Progress}
 use Rattle.graph.specs.declared.order.Progress.TheVariants.{WaitsAt, Placed}
 use Rattle.graph.specs.Wiring.{block, channel, into, Rises}
-use Rattle.graph.specs.Joined.{Joined}
+use Rattle.graph.specs.Joined.{IsJoined}
 use Rattle.graph.specs.Order.{place_in, IsForwardOrder}
-use Rattle.graph.specs.Placing.{sender, has_place, reached, IsPlaced, Kept, AllWait, WaitsPast}
+use Rattle.graph.specs.Placing.{sender, progress_placed, reached, BlockPlaced, IsPlacing, AllWait, WaitsPast}
 
 -- ---- counting
 
@@ -44,16 +44,16 @@ either : (x : Progress) → (x ≡ Placed) ⊎ ((q : ℕ) × (x ≡ WaitsAt q))
 either (WaitsAt q) = inr (q, refl)
 either Placed = inl refl
 
-placed-counts : (x : Progress) → x ≡ Placed → has_place x ≡ true
-placed-counts x e = ap has_place e
+placed-counts : (x : Progress) → x ≡ Placed → progress_placed x ≡ true
+placed-counts x e = ap progress_placed e
 
-counts-placed : (x : Progress) → has_place x ≡ true → x ≡ Placed
+counts-placed : (x : Progress) → progress_placed x ≡ true → x ≡ Placed
 counts-placed (WaitsAt q) e = absurd (cc)
 counts-placed Placed e = refl
 
 -- ---- where a rank rises, each block is placed
 
-none-waits : (g : Graph) (order : List ℕ) (ps : List Progress) (n : ℕ) (rank : ℕ → ℕ) → Joined g → Kept g order ps → AllWait g ps
+none-waits : (g : Graph) (order : List ℕ) (ps : List Progress) (n : ℕ) (rank : ℕ → ℕ) → IsJoined g → IsPlacing g order ps → AllWait g ps
     → WaitsPast g order ps n → length order ≤ n → Rises g rank
     → (bound b q : ℕ) → rank b < bound → b < length g.blocks → reached ps b ≡ WaitsAt q → ⊥
 none-waits g order ps n rank joined k wait past most rises zero b q lr lb h = omega (arith, lr)
@@ -67,16 +67,16 @@ none-waits g order ps n rank joined k wait past most rises (suc bound) b q lr lb
       | inr waits ↦ none-waits g order ps n rank joined k wait past most rises bound (sender g b q) waits.0 (omega (arith, up, lr)) sent.0 waits.1
     ]
 
-pub all-placed : (g : Graph) (order : List ℕ) (ps : List Progress) (n : ℕ) → Joined g → Kept g order ps → AllWait g ps
+pub all-placed : (g : Graph) (order : List ℕ) (ps : List Progress) (n : ℕ) → IsJoined g → IsPlacing g order ps → AllWait g ps
     → WaitsPast g order ps n → length order ≤ n → (rank : ℕ → ℕ) → Rises g rank → length order ≡ length g.blocks
 all-placed g order ps n joined k wait past most rank rises =
-    let placed : (b : ℕ) → b < length ps → IsPlaced ps b = λ b l.
+    let placed : (b : ℕ) → b < length ps → BlockPlaced ps b = λ b l.
     elim (either (reached ps b)) [
       | inl e ↦ e
       | inr waits ↦ absurd (none-waits g order ps n rank joined k wait past most rises (suc (rank b)) b waits.0 (omega arith) (omega (arith, l, k.number)) waits.1)
     ] in
-    let all : count_by has_place ps ≡ length ps =
-    all-counted has_place ps (λ i d l. placed-counts (get_or ps i d) (get_or_default ps i d (WaitsAt 0) l ∙ placed i l)) in
+    let all : count_by progress_placed ps ≡ length ps =
+    all-counted progress_placed ps (λ i d l. placed-counts (get_or ps i d) (get_or_default ps i d (WaitsAt 0) l ∙ placed i l)) in
     omega (arith, all, k.counted, k.number)
 
 -- ---- the order leads forwards
@@ -107,12 +107,12 @@ place-among order b n l there =
     let most = place-at-most order b there.0 (omega (arith, less, l)) e in
     omega (arith, most, less)
 
-pub all-forwards : (g : Graph) (order : List ℕ) (ps : List Progress) → Joined g → Kept g order ps → length order ≡ length g.blocks
+pub all-forwards : (g : Graph) (order : List ℕ) (ps : List Progress) → IsJoined g → IsPlacing g order ps → length order ≡ length g.blocks
     → IsForwardOrder g order
 all-forwards g order ps joined k number =
-    let counted : count_by has_place ps ≡ length ps = omega (arith, number, k.counted, k.number) in
+    let counted : count_by progress_placed ps ≡ length ps = omega (arith, number, k.counted, k.number) in
     let whole : (b : ℕ) → b < length g.blocks → Contains order b = λ b l.
-    k.whole b l (counts-placed (reached ps b) (counted-all has_place ps counted b (WaitsAt 0) (omega (arith, l, k.number)))) in
+    k.whole b l (counts-placed (reached ps b) (counted-all progress_placed ps counted b (WaitsAt 0) (omega (arith, l, k.number)))) in
     record {
       number = number;
       blocks = All-from_get_or (λ b. b < length g.blocks) order 0 (λ i l. (k.blocks i l).0);

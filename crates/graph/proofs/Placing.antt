@@ -10,8 +10,8 @@ use Rattle.graph.specs.declared.graphs.Graph.{Graph}
 use Rattle.graph.specs.declared.order.Progress.{Progress}
 use Rattle.graph.specs.declared.order.Progress.TheVariants.{WaitsAt, Placed}
 use Rattle.graph.specs.Wiring.{block, channel, into, out_of}
-use Rattle.graph.specs.Joined.{Joined}
-use Rattle.graph.specs.Placing.{sender, has_place, reached, IsPlaced, Kept, Later, AllWait, WaitsPast}
+use Rattle.graph.specs.Joined.{IsJoined}
+use Rattle.graph.specs.Placing.{sender, progress_placed, reached, BlockPlaced, IsPlacing, Later, AllWait, WaitsPast}
 
 apart : (q : ℕ) (x : Progress) → x ≡ WaitsAt q → x ≡ Placed → ⊥
 apart q x e f = cc
@@ -31,15 +31,15 @@ reached-elsewhere : (ps : List Progress) (b a : ℕ) (x : Progress) → a ≢ b 
 reached-elsewhere ps b a x ne = get_or-set_other ps b a x (WaitsAt 0) ne
 
 -- placed blocks stay so, where the one that changes wasn't
-placed-still : (ps : List Progress) (b a q : ℕ) (x : Progress) → reached ps b ≡ WaitsAt q → IsPlaced ps a → IsPlaced (set ps b x) a
+placed-still : (ps : List Progress) (b a q : ℕ) (x : Progress) → reached ps b ≡ WaitsAt q → BlockPlaced ps a → BlockPlaced (set ps b x) a
 placed-still ps b a q x w h =
-    reached-elsewhere ps b a x (λ e. apart q (reached ps b) w (subst (λ (n : ℕ). IsPlaced ps n) e h)) ∙ h
+    reached-elsewhere ps b a x (λ e. apart q (reached ps b) w (subst (λ (n : ℕ). BlockPlaced ps n) e h)) ∙ h
 
 -- a block that only goes on isn't placed
-placed-before : (ps : List Progress) (b a p : ℕ) → b < length ps → IsPlaced (set ps b (WaitsAt p)) a → IsPlaced ps a
+placed-before : (ps : List Progress) (b a p : ℕ) → b < length ps → BlockPlaced (set ps b (WaitsAt p)) a → BlockPlaced ps a
 placed-before ps b a p l h =
     elim (cases_eq a b) [
-      | inl e ↦ absurd (apart p (reached (set ps b (WaitsAt p)) b) (reached-here ps b (WaitsAt p) l) (subst (λ (n : ℕ). IsPlaced (set ps b (WaitsAt p)) n) e h))
+      | inl e ↦ absurd (apart p (reached (set ps b (WaitsAt p)) b) (reached-here ps b (WaitsAt p) l) (subst (λ (n : ℕ). BlockPlaced (set ps b (WaitsAt p)) n) e h))
       | inr ne ↦ sym (reached-elsewhere ps b a (WaitsAt p) ne) ∙ h
     ]
 
@@ -53,18 +53,18 @@ waits-before ps b a q x l h =
     ]
 
 abbrev counts : Progress → ℕ
-counts x = cond (has_place x) 1 0
+counts x = cond (progress_placed x) 1 0
 
 count-set : (ps : List Progress) (b : ℕ) (x : Progress) → b < length ps
-    → count_by has_place (set ps b x) + counts (reached ps b) ≡ count_by has_place ps + counts x
+    → count_by progress_placed (set ps b x) + counts (reached ps b) ≡ count_by progress_placed ps + counts x
 count-set ps b x l = sum_by-set counts ps b x (WaitsAt 0) l
 
 -- ---- a block goes on
 
-pub kept-on : (g : Graph) (order : List ℕ) (ps : List Progress) (b from port : ℕ) → Kept g order ps → b < length g.blocks
+pub kept-on : (g : Graph) (order : List ℕ) (ps : List Progress) (b from port : ℕ) → IsPlacing g order ps → b < length g.blocks
     → reached ps b ≡ WaitsAt from → port ≤ length (block g b).ins
-    → ((p : ℕ) → from ≤ p → p < port → IsPlaced ps (sender g b p))
-    → Kept g order (set ps b (WaitsAt port))
+    → ((p : ℕ) → from ≤ p → p < port → BlockPlaced ps (sender g b p))
+    → IsPlacing g order (set ps b (WaitsAt port))
 kept-on g order ps b from port k lb w most passed =
     let l : b < length ps = omega (arith, lb, k.number) in
     record {
@@ -78,7 +78,7 @@ kept-on g order ps b from port k lb w most passed =
       past = λ a p q la lp h. placed-still ps b (sender g a p) from (WaitsAt port) w
           (elim (waits-before ps b a q (WaitsAt port) l h) [
             | inl here ↦ let top : p < port = omega (arith, lp, same_port port q (WaitsAt port) refl here.1) in
-                subst (λ (n : ℕ). IsPlaced ps (sender g n p)) (sym here.0)
+                subst (λ (n : ℕ). BlockPlaced ps (sender g n p)) (sym here.0)
                 (elim (cases_lt p from) [
                   | inl less ↦ k.past b p from lb less w
                   | inr more ↦ passed p more top
@@ -94,11 +94,11 @@ kept-on g order ps b from port k lb w most passed =
 
 -- ---- a block is placed
 
-pub kept-placed : (g : Graph) (order : List ℕ) (ps : List Progress) (b from : ℕ) → Kept g order ps → b < length g.blocks
+pub kept-placed : (g : Graph) (order : List ℕ) (ps : List Progress) (b from : ℕ) → IsPlacing g order ps → b < length g.blocks
     → reached ps b ≡ WaitsAt from
-    → ((p : ℕ) → from ≤ p → p < length (block g b).ins → IsPlaced ps (sender g b p))
+    → ((p : ℕ) → from ≤ p → p < length (block g b).ins → BlockPlaced ps (sender g b p))
     → ((p : ℕ) → p < length (block g b).ins → sender g b p < length g.blocks)
-    → Kept g (order ++ b ∷ []) (set ps b Placed)
+    → IsPlacing g (order ++ b ∷ []) (set ps b Placed)
 kept-placed g order ps b from k lb w passed there =
     let l : b < length ps = omega (arith, lb, k.number) in
     let more = length_push order b in
@@ -109,10 +109,10 @@ kept-placed g order ps b from k lb w passed there =
           omega (arith, n, old, more, k.counted);
       blocks = λ i li.
           elim (cases_lt i (length order)) [
-            | inl less ↦ subst (λ (n : ℕ). (n < length g.blocks) × IsPlaced (set ps b Placed) n) (sym (get_or_append_left order (b ∷ []) 0 i less))
+            | inl less ↦ subst (λ (n : ℕ). (n < length g.blocks) × BlockPlaced (set ps b Placed) n) (sym (get_or_append_left order (b ∷ []) 0 i less))
                 ((k.blocks i less).0, placed-still ps b (get_or order i 0) from Placed w (k.blocks i less).1)
             | inr top ↦ let e : length order ≡ i = omega (arith, li, more, top) in
-                subst (λ (n : ℕ). (n < length g.blocks) × IsPlaced (set ps b Placed) n) (sym (get_or_push order b 0 i e)) (lb, reached-here ps b Placed l)
+                subst (λ (n : ℕ). (n < length g.blocks) × BlockPlaced (set ps b Placed) n) (sym (get_or_push order b 0 i e)) (lb, reached-here ps b Placed l)
           ];
       whole = λ a la h.
           elim (cases_eq a b) [
@@ -131,7 +131,7 @@ kept-placed g order ps b from k lb w passed there =
                 let e : get_or (order ++ b ∷ []) i 0 ≡ b = get_or_push order b 0 i at in
                 let same : take i (order ++ b ∷ []) ≡ order = take-append-le i order (b ∷ []) (omega (arith, at)) ∙ take_all i order (omega (arith, at)) in
                 let lp' : p < length (block g b).ins = subst (λ (n : ℕ). p < length (block g n).ins) e lp in
-                let placed : IsPlaced ps (sender g b p) =
+                let placed : BlockPlaced ps (sender g b p) =
                 elim (cases_lt p from) [
                   | inl before ↦ k.past b p from lb before w
                   | inr on ↦ passed p on lp'
@@ -153,9 +153,6 @@ kept-placed g order ps b from k lb w passed there =
 
 -- ---- one change after another
 
-pub later-same : (g : Graph) (order : List ℕ) (ps : List Progress) → Later g order ps order ps
-later-same g order ps = record { longer = omega arith; front = λ i l. refl; stay = λ b h. h; waits = λ b q l h. inl h }
-
 pub later-later : (g : Graph) (o1 o2 o3 : List ℕ) (s1 s2 s3 : List Progress) → Later g o1 s1 o2 s2 → Later g o2 s2 o3 s3 → Later g o1 s1 o3 s3
 later-later g o1 o2 o3 s1 s2 s3 x y =
     record {
@@ -170,9 +167,9 @@ later-later g o1 o2 o3 s1 s2 s3 x y =
     }
 
 -- a block that isn't placed stands nowhere in the order
-not-there : (g : Graph) (order : List ℕ) (ps : List Progress) (b i : ℕ) → Kept g order ps → i < length order
-    → (IsPlaced ps b → ⊥) → b ≡ get_or order i 0 → ⊥
-not-there g order ps b i k l not e = not (subst (λ (n : ℕ). IsPlaced ps n) (sym e) (k.blocks i l).1)
+not-there : (g : Graph) (order : List ℕ) (ps : List Progress) (b i : ℕ) → IsPlacing g order ps → i < length order
+    → (BlockPlaced ps b → ⊥) → b ≡ get_or order i 0 → ⊥
+not-there g order ps b i k l not e = not (subst (λ (n : ℕ). BlockPlaced ps n) (sym e) (k.blocks i l).1)
 
 -- all wait still
 pub all-wait : (g : Graph) (o1 o2 : List ℕ) (s1 s2 : List Progress) → Later g o1 s1 o2 s2 → AllWait g s1 → AllWait g s2
@@ -205,7 +202,7 @@ PassedPorts g ps a k =
     (r q : ℕ) → r < length g.blocks → reached ps r ≡ WaitsAt q → sender g r q ≡ a → k ≤ (channel g (into g r q)).from_port
 
 -- the channel that a block waits at is the one at its sender's port
-waits-there : (g : Graph) (a k r q : ℕ) → Joined g → r < length g.blocks → q < length (block g r).ins → sender g r q ≡ a
+waits-there : (g : Graph) (a k r q : ℕ) → IsJoined g → r < length g.blocks → q < length (block g r).ins → sender g r q ≡ a
     → (channel g (into g r q)).from_port ≡ k → r ≡ (channel g (out_of g a k)).to_block
 waits-there g a k r q joined lr lq from port =
     let named = (joined.blocks r lr).in_named q lq in
@@ -214,14 +211,14 @@ waits-there g a k r q joined lr lq from port =
     (subst (λ (n : ℕ). out_of g n (channel g (into g r q)).from_port ≡ into g r q) from sent.2) in
     sym (ap (λ (d : ℕ). (channel g d).to_block) same ∙ named.1)
 
-pub port-more : (g : Graph) (o1 o2 : List ℕ) (s1 s2 : List Progress) (a k : ℕ) → Joined g → Later g o1 s1 o2 s2 → AllWait g s1
-    → IsPlaced s1 a
-    → ((q : ℕ) → reached s2 (channel g (out_of g a k)).to_block ≡ WaitsAt q → IsPlaced s1 (sender g (channel g (out_of g a k)).to_block q) → ⊥)
+pub port-more : (g : Graph) (o1 o2 : List ℕ) (s1 s2 : List Progress) (a k : ℕ) → IsJoined g → Later g o1 s1 o2 s2 → AllWait g s1
+    → BlockPlaced s1 a
+    → ((q : ℕ) → reached s2 (channel g (out_of g a k)).to_block ≡ WaitsAt q → BlockPlaced s1 (sender g (channel g (out_of g a k)).to_block q) → ⊥)
     → PassedPorts g s1 a k → PassedPorts g s2 a (k + 1)
 port-more g o1 o2 s1 s2 a k joined x wait placed new past r q lr h from =
-    let here : IsPlaced s1 (sender g r q) = subst (λ (n : ℕ). IsPlaced s1 n) (sym from) placed in
+    let here : BlockPlaced s1 (sender g r q) = subst (λ (n : ℕ). BlockPlaced s1 n) (sym from) placed in
     elim (cases_eq r (channel g (out_of g a k)).to_block) [
-      | inl e ↦ absurd (new q (subst (λ (n : ℕ). reached s2 n ≡ WaitsAt q) e h) (subst (λ (n : ℕ). IsPlaced s1 (sender g n q)) e here))
+      | inl e ↦ absurd (new q (subst (λ (n : ℕ). reached s2 n ≡ WaitsAt q) e h) (subst (λ (n : ℕ). BlockPlaced s1 (sender g n q)) e here))
       | inr ne ↦ elim (x.waits r q lr h) [
         | inl before ↦ let least = past r q lr before from in
             elim (cases_eq (channel g (into g r q)).from_port k) [
@@ -232,7 +229,7 @@ port-more g o1 o2 s1 s2 a k joined x wait placed new past r q lr h from =
       ]
     ]
 
-pub all-ports : (g : Graph) (ps : List Progress) (a k : ℕ) → Joined g → AllWait g ps → length (block g a).outs ≤ k → PassedPorts g ps a k
+pub all-ports : (g : Graph) (ps : List Progress) (a k : ℕ) → IsJoined g → AllWait g ps → length (block g a).outs ≤ k → PassedPorts g ps a k
     → (r q : ℕ) → r < length g.blocks → reached ps r ≡ WaitsAt q → sender g r q ≡ a → ⊥
 all-ports g ps a k joined wait most past r q lr h from =
     let named = (joined.blocks r lr).in_named q (wait r q lr h) in
@@ -242,7 +239,7 @@ all-ports g ps a k joined wait most past r q lr h from =
     omega (arith, less, most, past r q lr h from)
 
 -- no block waits for the next block of the order
-pub past-more : (g : Graph) (o1 o2 : List ℕ) (s1 s2 : List Progress) (n : ℕ) → Kept g o1 s1 → Later g o1 s1 o2 s2 → n < length o1
+pub past-more : (g : Graph) (o1 o2 : List ℕ) (s1 s2 : List Progress) (n : ℕ) → IsPlacing g o1 s1 → Later g o1 s1 o2 s2 → n < length o1
     → WaitsPast g o1 s1 n
     → ((r q : ℕ) → r < length g.blocks → reached s2 r ≡ WaitsAt q → sender g r q ≡ get_or o1 n 0 → ⊥)
     → WaitsPast g o2 s2 (n + 1)

@@ -4,7 +4,7 @@ use mathlib.Core.List.{map}
 use Rattle.stream_tokens.specs.declared.Token.{Token}
 use Rattle.stream_tokens.specs.declared.Token.TheVariants.{Item, Stop, Done}
 use Rattle.graph.specs.WholeStreams.{whole_stream, whole_inputs}
-use Rattle.graph.specs.Standing.{at_start, at_end}
+use Rattle.graph.specs.Standing.{start_position, final_position}
 use Rattle.graph.proofs.Vectors.{vectors, stored}
 
 abbrev vector : List ℕ → List Token
@@ -36,5 +36,5 @@ written = refl
 factors : whole_inputs stored vectors 6 ≡ vector (5 ∷ []) ∷ vector (7 ∷ []) ∷ []
 factors = refl
 
-moved : (at_end stored vectors 6 ≡ 9) × (at_end stored vectors 9 ≡ 3) × (at_start 6 ≡ 0)
+moved : (final_position stored vectors 6 ≡ 9) × (final_position stored vectors 9 ≡ 3) × (start_position 6 ≡ 0)
 moved = (refl, refl, refl)

@@ -7,7 +7,7 @@ use Rattle.graph.specs.declared.graphs.Graph.{Graph}
 use Rattle.graph.specs.declared.order.Progress.{Progress}
 use Rattle.graph.specs.declared.order.Progress.TheVariants.{WaitsAt, Placed}
 use Rattle.graph.specs.Wiring.{block}
-use Rattle.graph.specs.Placing.{sender, reached, IsPlaced, Kept, Later, AllWait}
+use Rattle.graph.specs.Placing.{sender, reached, BlockPlaced, IsPlacing, Later, AllWait}
 use Rattle.graph.proofs.Vectors.{leads}
 
 abbrev chain : Graph
@@ -24,11 +24,11 @@ both_placed = Placed ∷ Placed ∷ []
 
 -- ---- the source alone is placed
 
-one_blocks : (i : ℕ) → i < 1 → (get_or (0 ∷ []) i 0 < 2) × IsPlaced source_placed (get_or (0 ∷ []) i 0)
+one_blocks : (i : ℕ) → i < 1 → (get_or (0 ∷ []) i 0 < 2) × BlockPlaced source_placed (get_or (0 ∷ []) i 0)
 one_blocks zero l = (omega arith, refl)
 one_blocks (suc i) l = absurd (omega (arith, l))
 
-one_whole : (b : ℕ) → b < 2 → IsPlaced source_placed b → Contains (0 ∷ []) b
+one_whole : (b : ℕ) → b < 2 → BlockPlaced source_placed b → Contains (0 ∷ []) b
 one_whole zero l h = (0, omega arith, refl)
 one_whole (suc zero) l h = absurd (cc)
 one_whole (suc (suc b)) l h = absurd (omega (arith, l))
@@ -48,7 +48,7 @@ one_wait b q l h =
     let at = one_waits b q l h in
     subst (λ (n : ℕ). q < length (block chain n).ins) (sym at.0) (omega (arith, at.1))
 
-one_kept : Kept chain (0 ∷ []) source_placed
+one_kept : IsPlacing chain (0 ∷ []) source_placed
 one_kept = record {
   number = refl;
   counted = refl;
@@ -61,7 +61,7 @@ one_kept = record {
 
 -- ---- the sink is placed after it
 
-both_blocks : (i : ℕ) → i < 2 → (get_or (0 ∷ 1 ∷ []) i 0 < 2) × IsPlaced both_placed (get_or (0 ∷ 1 ∷ []) i 0)
+both_blocks : (i : ℕ) → i < 2 → (get_or (0 ∷ 1 ∷ []) i 0 < 2) × BlockPlaced both_placed (get_or (0 ∷ 1 ∷ []) i 0)
 both_blocks zero l = (omega arith, refl)
 both_blocks (suc zero) l = (omega arith, refl)
 both_blocks (suc (suc i)) l = absurd (omega (arith, l))
@@ -83,7 +83,7 @@ none_waits zero q l h = absurd (cc)
 none_waits (suc zero) q l h = absurd (cc)
 none_waits (suc (suc b)) q l h = absurd (omega (arith, l))
 
-both_kept : Kept chain (0 ∷ 1 ∷ []) both_placed
+both_kept : IsPlacing chain (0 ∷ 1 ∷ []) both_placed
 both_kept = record {
   number = refl;
   counted = refl;
@@ -98,7 +98,7 @@ same_front : (i : ℕ) → i < 1 → ◌≡◌ {A = ℕ} (get_or (0 ∷ 1 ∷ []
 same_front zero l = refl
 same_front (suc i) l = absurd (omega (arith, l))
 
-stays : (b : ℕ) → IsPlaced source_placed b → IsPlaced both_placed b
+stays : (b : ℕ) → BlockPlaced source_placed b → BlockPlaced both_placed b
 stays zero h = refl
 stays (suc zero) h = refl
 stays (suc (suc b)) h = absurd (cc)

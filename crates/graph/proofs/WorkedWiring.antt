@@ -6,7 +6,7 @@ use Rattle.std.proofs.lemmas.List.Elements.{All-from_get_or}
 use Rattle.graph.specs.declared.graphs.Kind.TheVariants.{Cast}
 use Rattle.graph.specs.declared.graphs.Graph.{Graph}
 use Rattle.graph.specs.Wiring.{Rises, WellFormed}
-use Rattle.graph.specs.Joined.{Joined}
+use Rattle.graph.specs.Joined.{IsJoined}
 use Rattle.graph.specs.Order.{place_in, IsForwardOrder}
 use Rattle.graph.proofs.ByTest.{below-all, joined-from, rises-from, formed-from}
 use Rattle.graph.proofs.Vectors.{leads, vectors}
@@ -45,7 +45,7 @@ ring = record {
   channels = leads 0 0 1 0 ∷ leads 1 0 0 0 ∷ [];
 }
 
-joined_ring : Joined ring
+joined_ring : IsJoined ring
 joined_ring = joined-from ring refl refl refl
 
 unformed_ring : WellFormed ring → ⊥

@@ -12,8 +12,8 @@ KindInRange storages (Scan tensor level) = (tensor < length storages) × (1 ≤ 
 KindInRange storages (Array tensor) = tensor < length storages
 KindInRange storages other = Unit {0}
 
-abbrev pub InRange : List Ranked → Graph → Type 0
-InRange storages g = (b : ℕ) → b < length g.blocks → KindInRange storages (block g b).kind
+abbrev pub KindsInRange : List Ranked → Graph → Type 0
+KindsInRange storages g = (b : ℕ) → b < length g.blocks → KindInRange storages (block g b).kind
 
 -- the payloads that a block brings together
 abbrev pub payloads_of : Kind → ℕ

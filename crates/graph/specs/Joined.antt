@@ -18,6 +18,6 @@ pub record ChannelFits (g : Graph) (c : ℕ) : Type 0 where
   pub came : IsSent g c
 
 -- all that well formed graphs satisfy but that no channel leads round
-pub record Joined (g : Graph) : Type 0 where
+pub record IsJoined (g : Graph) : Type 0 where
   pub blocks : (b : ℕ) → b < length g.blocks → BlockFits g b
   pub channels : (c : ℕ) → c < length g.channels → ChannelFits g c

@@ -10,36 +10,36 @@ use Rattle.graph.specs.Wiring.{block, channel, into}
 abbrev pub sender : Graph → ℕ → ℕ → ℕ
 sender g b p = (channel g (into g b p)).from_block
 
-abbrev pub has_place : Progress → Bool
-has_place (WaitsAt p) = false
-has_place Placed = true
+abbrev pub progress_placed : Progress → Bool
+progress_placed (WaitsAt p) = false
+progress_placed Placed = true
 
 -- how far a block is
 abbrev pub reached : List Progress → ℕ → Progress
 reached ps b = get_or ps b (WaitsAt 0)
 
-abbrev pub IsPlaced : List Progress → ℕ → Type 0
-IsPlaced ps b = reached ps b ≡ Placed
+abbrev pub BlockPlaced : List Progress → ℕ → Type 0
+BlockPlaced ps b = reached ps b ≡ Placed
 
 -- The order has each placed block once, after the senders of all its inputs, and the other blocks are past inputs whose
 -- senders are placed.
-pub record Kept (g : Graph) (order : List ℕ) (ps : List Progress) : Type 0 where
+pub record IsPlacing (g : Graph) (order : List ℕ) (ps : List Progress) : Type 0 where
   pub number : length ps ≡ length g.blocks
-  pub counted : length order ≡ count_by has_place ps
-  pub blocks : (i : ℕ) → i < length order → (get_or order i 0 < length g.blocks) × IsPlaced ps (get_or order i 0)
-  pub whole : (b : ℕ) → b < length g.blocks → IsPlaced ps b → Contains order b
+  pub counted : length order ≡ count_by progress_placed ps
+  pub blocks : (i : ℕ) → i < length order → (get_or order i 0 < length g.blocks) × BlockPlaced ps (get_or order i 0)
+  pub whole : (b : ℕ) → b < length g.blocks → BlockPlaced ps b → Contains order b
   pub after : (i p : ℕ) → i < length order → p < length (block g (get_or order i 0)).ins
       → Contains (take i order) (sender g (get_or order i 0) p)
-  pub past : (b p q : ℕ) → b < length g.blocks → p < q → reached ps b ≡ WaitsAt q → IsPlaced ps (sender g b p)
+  pub past : (b p q : ℕ) → b < length g.blocks → p < q → reached ps b ≡ WaitsAt q → BlockPlaced ps (sender g b p)
   pub within : (b q : ℕ) → b < length g.blocks → reached ps b ≡ WaitsAt q → q ≤ length (block g b).ins
 
 -- More blocks may be placed, and where a block went on, it waits for one that was not placed.
 pub record Later (g : Graph) (order : List ℕ) (ps : List Progress) (order' : List ℕ) (ps' : List Progress) : Type 0 where
   pub longer : length order ≤ length order'
   pub front : (i : ℕ) → i < length order → get_or order' i 0 ≡ get_or order i 0
-  pub stay : (b : ℕ) → IsPlaced ps b → IsPlaced ps' b
+  pub stay : (b : ℕ) → BlockPlaced ps b → BlockPlaced ps' b
   pub waits : (b q : ℕ) → b < length g.blocks → reached ps' b ≡ WaitsAt q
-      → (reached ps b ≡ WaitsAt q) ⊎ ((q < length (block g b).ins) × (IsPlaced ps (sender g b q) → ⊥))
+      → (reached ps b ≡ WaitsAt q) ⊎ ((q < length (block g b).ins) × (BlockPlaced ps (sender g b q) → ⊥))
 
 -- a block that isn't placed waits at one of its ports
 abbrev pub AllWait : Graph → List Progress → Type 0

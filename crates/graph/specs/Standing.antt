@@ -21,8 +21,8 @@ pub record StandAt {B : Type 0} (kind : B → Kind) (stands : B → Streams → 
   pub placed : (b : ℕ) (x : B) → slice_get blocks b ≡ Some x → stands x (whole_inputs storages g b) (position b)
 
 -- before the first moves, and after the last
-abbrev pub at_start : ℕ → ℕ
-at_start b = 0
+abbrev pub start_position : ℕ → ℕ
+start_position b = 0
 
-abbrev pub at_end : List Ranked → Graph → ℕ → ℕ
-at_end storages g b = length (block_moves storages g b)
+abbrev pub final_position : List Ranked → Graph → ℕ → ℕ
+final_position storages g b = length (block_moves storages g b)

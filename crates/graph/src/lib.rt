@@ -6,7 +6,7 @@ mod order;
 mod ports;
 mod wiring;
 
-ghost use Rattle.graph.specs.Laws.{StreamsAreGiven, OnlyWholeStreams};
+ghost use Rattle.graph.specs.Laws.{StreamsAreGiven, OnlyWholeStreams, CarriedAreWhole, CarriedAreConsistent};
 
 pub use graphs::{Block, Channel, Graph, Kind};
 pub use order::forward_order;
@@ -21,6 +21,15 @@ pub fn streams_are_given()
 /// streams.
 pub fn only_whole_streams()
     ensures { OnlyWholeStreams }
+{}
+
+/// Streams of the channels of a well formed graph that every block passes on, as its kind says, are the whole streams, and
+/// the graph is consistent.
+///
+/// So whoever knows a stream for each channel, as the one that its label names, need only look at one block at a time.
+pub fn carried_streams()
+    ensures whole { CarriedAreWhole }
+    ensures consistent { CarriedAreConsistent }
 {}
 
 #[cfg(test)]

@@ -3,9 +3,9 @@
 ghost use Rattle.std.specs.Prelude.{◌≡◌, ◌<◌, ◌≤◌, ◌^◌, ◌↔◌, ℕ, [], length, replicate, IfOk, IsTrue};
 ghost use Rattle.graph.specs.declared.order.Progress.TheVariants.{WaitsAt};
 ghost use Rattle.graph.specs.Wiring.{block, channel, Rises, WellFormed};
-ghost use Rattle.graph.specs.Joined.{Joined};
+ghost use Rattle.graph.specs.Joined.{IsJoined};
 ghost use Rattle.graph.specs.Order.{IsForwardOrder};
-ghost use Rattle.graph.specs.Placing.{sender, reached, IsPlaced, Kept, Later, AllWait};
+ghost use Rattle.graph.specs.Placing.{sender, reached, BlockPlaced, IsPlacing, Later, AllWait};
 
 use crate::graphs::Graph;
 use std::alloc::{AllocError, Global};
@@ -29,7 +29,7 @@ struct Placing {
 impl Graph {
     /// The block that sends to an input port.
     fn sender(&self, b: usize, port: usize) -> usize
-        requires joined { Joined self.now }
+        requires joined { IsJoined self.now }
         requires block { b < length self.now.blocks }
         requires port { port < length (block self.now b).ins }
         ensures sender { result ≡ sender self.now b port }
@@ -43,21 +43,21 @@ impl Graph {
 impl Placing {
     fn is_placed(&self, b: usize) -> bool
         requires { b < length self.now.progress.items }
-        ensures { IsTrue result ↔ IsPlaced self.now.progress.items b }
+        ensures { IsTrue result ↔ BlockPlaced self.now.progress.items b }
     {
         matches!(self.progress[b], Progress::Placed)
     }
 
     /// The first input port of a block, from one on, whose sender is not placed, or the number of its ports.
     fn next_port(&self, g: &Graph, b: usize, from: usize) -> usize
-        requires joined { Joined g.now }
+        requires joined { IsJoined g.now }
         requires number { length self.now.progress.items ≡ length g.now.blocks }
         requires block { b < length g.now.blocks }
         requires port { from ≤ length (block g.now b).ins }
         ensures onwards { from ≤ result }
         ensures within { result ≤ length (block g.now b).ins }
-        ensures past { (p : ℕ) → from ≤ p → p < result → IsPlaced self.now.progress.items (sender g.now b p) }
-        ensures waits { result < length (block g.now b).ins → ¬ IsPlaced self.now.progress.items (sender g.now b result) }
+        ensures past { (p : ℕ) → from ≤ p → p < result → BlockPlaced self.now.progress.items (sender g.now b p) }
+        ensures waits { result < length (block g.now b).ins → ¬ BlockPlaced self.now.progress.items (sender g.now b result) }
     {
         let ports = g.block(b).ins.len();
         for port in from..ports {
@@ -70,13 +70,13 @@ impl Placing {
 
     /// Lets a block pass the ports whose senders are placed, and places it where it is past them all.
     fn advance(&mut self, g: &Graph, b: usize) -> Result<(), AllocError>
-        requires joined { Joined g.now }
+        requires joined { IsJoined g.now }
         requires small { length g.now.blocks < 2 ^ 32 }
-        requires kept { Kept g.now self.old.order.items self.old.progress.items }
+        requires kept { IsPlacing g.now self.old.order.items self.old.progress.items }
         requires block { b < length g.now.blocks }
-        ensures kept { IfOk result (λ _. Kept g.now self.new.order.items self.new.progress.items) }
+        ensures kept { IfOk result (λ _. IsPlacing g.now self.new.order.items self.new.progress.items) }
         ensures later { IfOk result (λ _. Later g.now self.old.order.items self.old.progress.items self.new.order.items self.new.progress.items) }
-        ensures waits { IfOk result (λ _. (q : ℕ) → reached self.new.progress.items b ≡ WaitsAt q → (q < length (block g.now b).ins) × ¬ IsPlaced self.old.progress.items (sender g.now b q)) }
+        ensures waits { IfOk result (λ _. (q : ℕ) → reached self.new.progress.items b ≡ WaitsAt q → (q < length (block g.now b).ins) × ¬ BlockPlaced self.old.progress.items (sender g.now b q)) }
     {
         let Progress::WaitsAt(from) = self.progress[b] else {
             return Ok(());
@@ -93,9 +93,9 @@ impl Placing {
 
     /// Every block waits, or is placed where nothing leads to it or all that leads to it is.
     fn start(alloc: Global, g: &Graph) -> Result<Placing, AllocError>
-        requires joined { Joined g.now }
+        requires joined { IsJoined g.now }
         requires small { length g.now.blocks < 2 ^ 32 }
-        ensures kept { IfOk result (λ placing. Kept g.now placing.order.items placing.progress.items) }
+        ensures kept { IfOk result (λ placing. IsPlacing g.now placing.order.items placing.progress.items) }
         ensures wait { IfOk result (λ placing. AllWait g.now placing.progress.items) }
     {
         let mut placing = Placing {
@@ -110,13 +110,13 @@ impl Placing {
 
     /// Lets the receivers of a placed block advance.
     fn pass_on(&mut self, g: &Graph, b: usize) -> Result<(), AllocError>
-        requires joined { Joined g.now }
+        requires joined { IsJoined g.now }
         requires small { length g.now.blocks < 2 ^ 32 }
-        requires kept { Kept g.now self.old.order.items self.old.progress.items }
+        requires kept { IsPlacing g.now self.old.order.items self.old.progress.items }
         requires block { b < length g.now.blocks }
         requires wait { AllWait g.now self.old.progress.items }
-        requires placed { IsPlaced self.old.progress.items b }
-        ensures kept { IfOk result (λ _. Kept g.now self.new.order.items self.new.progress.items) }
+        requires placed { BlockPlaced self.old.progress.items b }
+        ensures kept { IfOk result (λ _. IsPlacing g.now self.new.order.items self.new.progress.items) }
         ensures later { IfOk result (λ _. Later g.now self.old.order.items self.old.progress.items self.new.order.items self.new.progress.items) }
         ensures past { IfOk result (λ _. (r q : ℕ) → r < length g.now.blocks → reached self.new.progress.items r ≡ WaitsAt q → ¬ (sender g.now r q ≡ b)) }
     {
@@ -130,7 +130,7 @@ impl Placing {
 
 /// The blocks that can be placed after all their senders, in such an order.
 pub fn placed_blocks(alloc: Global, g: &Graph) -> Result<Vec<u32>, AllocError>
-    requires joined { Joined g.now }
+    requires joined { IsJoined g.now }
     requires small { length g.now.blocks < 2 ^ 32 }
     ensures forward { IfOk result (λ order. length order.items ≡ length g.now.blocks → IsForwardOrder g.now order.items) }
     ensures all { IfOk result (λ order. (rank : ℕ → ℕ) → Rises g.now rank → length order.items ≡ length g.now.blocks) }

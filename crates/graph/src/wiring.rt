@@ -2,7 +2,7 @@
 
 ghost use Rattle.std.specs.Prelude.{◌≡◌, ◌<◌, ◌^◌, ◌↔◌, ℕ, true, length, IfOk, IsTrue};
 ghost use Rattle.graph.specs.Wiring.{block, channel, NamesInput, NamesOutput, IsReceived, IsSent, WellFormed};
-ghost use Rattle.graph.specs.Joined.{BlockFits, ChannelFits, Joined};
+ghost use Rattle.graph.specs.Joined.{BlockFits, ChannelFits, IsJoined};
 
 use crate::graphs::Graph;
 use crate::order::placed_blocks;

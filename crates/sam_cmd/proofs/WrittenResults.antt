@@ -11,11 +11,11 @@ use Rattle.sam_model.specs.declared.program.Program.{Program}
 use Rattle.sam_model.specs.Children.{Ranked}
 use Rattle.sam_model.specs.Lists.{tuples, within, items_at}
 use Rattle.sam_model.specs.Denote.{den, pat, result_entries}
-use Rattle.sam_model.specs.Listing.{InRange as InRangeOf, listing}
+use Rattle.sam_model.specs.Listing.{InRange, listing}
 use Rattle.stream_model.specs.Labels.{result_sizes}
 use Rattle.graph.specs.declared.graphs.Graph.{Graph}
 use Rattle.graph.specs.WholeStreams.{Consistent}
-use Rattle.graph.specs.Assembly.{InRange}
+use Rattle.graph.specs.Assembly.{KindsInRange}
 use Rattle.graph.specs.Writers.{written_listing}
 use Rattle.custard_lower.specs.Lowered.{Carries, Lowered, storages_of, written_of}
 use Rattle.inputs.specs.Tensors.{AreStored}
@@ -67,18 +67,18 @@ module _ (p : Program) (g : Graph) (lowered : Lowered p g) (es : List Entries) (
       ∙ ap (λ levels. written_listing (storages_of p es) g levels) (sym (length-map p.result.order _))
 
   -- it reads what is stored
-  pub reads-stored : InRange stored g
-  reads-stored = subst (λ s. InRange s g) (sym are.are_stored) carries.in_range
+  pub reads-stored : KindsInRange stored g
+  reads-stored = subst (λ s. KindsInRange s g) (sym are.are_stored) carries.in_range
 
   -- its streams fit
   pub streams-fit : Consistent stored g
   streams-fit = subst (λ s. Consistent s g) (sym are.are_stored) carries.consistent
 
   -- what its writers leave is in range
-  pub written-in-range : InRangeOf (length p.result.order) (written_listing stored g (length p.result.order))
+  pub written-in-range : InRange (length p.result.order) (written_listing stored g (length p.result.order))
   written-in-range =
-      subst (λ w. InRangeOf (length p.result.order) w) (sym same)
-      (subst (λ levels. InRangeOf levels (written_of p g es)) (length-map p.result.order _) carries.written_in_range)
+      subst (λ w. InRange (length p.result.order) w) (sym same)
+      (subst (λ levels. InRange levels (written_of p g es)) (length-map p.result.order _) carries.written_in_range)
 
   -- it is the tensor that the program denotes
   pub written-tensor : listing (written_listing stored g (length p.result.order)) ≡ result_entries p es

@@ -6,7 +6,7 @@ ghost use Rattle.sam_model.specs.Accepted.{accepted};
 ghost use Rattle.sam_model.specs.ResultText.{result_text as denoted_text};
 ghost use Rattle.graph.specs.Wiring.{WellFormed};
 ghost use Rattle.graph.specs.WholeStreams.{Consistent};
-ghost use Rattle.graph.specs.Assembly.{InRange, FewPayloads};
+ghost use Rattle.graph.specs.Assembly.{KindsInRange, FewPayloads};
 ghost use Rattle.graph.specs.Writers.{written_listing};
 ghost use Rattle.inputs.specs.Tensors.{AreStored};
 
@@ -35,7 +35,7 @@ fn run(alloc: Global, g: &Graph, storages: &[Storage], levels: u8) -> Result<Wri
     requires few_blocks { length g.now.blocks < 2 ^ 32 }
     requires few_channels { length g.now.channels < 2 ^ 32 }
     requires few_payloads { FewPayloads g.now }
-    requires in_range { InRange storages.now g.now }
+    requires in_range { KindsInRange storages.now g.now }
     requires consistent { Consistent storages.now g.now }
     ensures { IfOk result (λ w. w ≡ written_listing storages.now g.now levels) }
 {

@@ -56,9 +56,6 @@ agree_whole (suc k) (x ∷ e) (y ∷ p) s =
 
 -- ---- prefixes
 
-some_agrees : Stored → ℕ → List ℕ → Bool
-some_agrees a q p = list_any (λ entry. same_list (take q entry.0) (take q p)) a.entries
-
 none_before : (m n : ℕ) → m ≤ n → eqb m 0 ≡ false → eqb n 0 ≡ false
 none_before m n h e = grind (arith, nat_tests)
 
@@ -77,9 +74,6 @@ stored-begins a p q h =
         let some : list_any (λ entry. same_list (take n entry.0) (take n (p ++ q))) a.entries ≡ true = rw (none_before m n le e) at h in
         list_any-mono (λ entry. same_list (take n entry.0) (take n (p ++ q))) (λ entry. same_list (take m entry.0) (take m p))
         (λ entry s. rw (sym (take-append-le m p q short)) (agree m n entry.0 (p ++ q) le s)) a.entries some
-
-pub root-stored : (a : Stored) → is_stored a [] ≡ true
-root-stored a = refl
 
 -- ---- values
 

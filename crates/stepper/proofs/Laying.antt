@@ -10,7 +10,7 @@ use Rattle.block_core.specs.Kind.{Kind}
 use Rattle.graph.specs.declared.graphs.Graph.{Graph}
 use Rattle.graph.specs.Wiring.{block, WellFormed}
 use Rattle.graph.specs.WholeStreams.{Consistent}
-use Rattle.graph.specs.Standing.{StandAt, at_start}
+use Rattle.graph.specs.Standing.{StandAt, start_position}
 use Rattle.plays.specs.Net.{Waits, start}
 use Rattle.plays.proofs.Waiting.{waits_start}
 use Rattle.plays.proofs.Sums.{sum_zero}
@@ -73,7 +73,7 @@ outs_small g w few b l = All-from_get_or (λ c. c < 2 ^ 32) (block g b).outs 0 (
 
 -- a machine whose queues are empty stands at the start
 pub starts_at : {B : Type 0} (kind : B → Kind) (stands : B → Streams → ℕ → Type 0) (storages : List Ranked) (g : Graph) (caps : List (Option ℕ)) (m : Held B)
-    → WellFormed g → Consistent storages g → StandAt kind stands storages g at_start m.blocks
+    → WellFormed g → Consistent storages g → StandAt kind stands storages g start_position m.blocks
     → length caps ≡ length g.channels → length m.queues ≡ length caps
     → ((c : ℕ) (q : Queued) → slice_get m.queues c ≡ Some q → (q.tokens ≡ []) × (q.room ≡ get_or caps c None))
     → m.moves ≡ 0 → Routed g m.routes → AtState kind stands storages g caps start m

@@ -14,7 +14,7 @@ use Rattle.block_core.specs.Ports.{Streams}
 use Rattle.block_core.specs.Kind.{Kind}
 use Rattle.graph.specs.declared.graphs.Graph.{Graph}
 use Rattle.graph.specs.WholeStreams.{whole_inputs}
-use Rattle.graph.specs.Standing.{block_moves, StandAt, at_end}
+use Rattle.graph.specs.Standing.{block_moves, StandAt, final_position}
 use Rattle.plays.specs.Net.{Net, State, Kept, Rooms, Finished}
 use Rattle.plays.specs.Held.{Held, at_port}
 use Rattle.stepper.specs.NetOf.{net_of}
@@ -101,7 +101,7 @@ some_waiting net s some h = some (all_finished net s net.blocks h)
 
 -- the blocks of a finished machine are at the end of their moves
 pub stand_end : {B : Type 0} (kind : B → Kind) (stands : B → Streams → ℕ → Type 0) (storages : List Ranked) (g : Graph) (s : State) (bs : List B)
-    → StandAt kind stands storages g s bs → Finished (net_of storages g) s → StandAt kind stands storages g (at_end storages g) bs
+    → StandAt kind stands storages g s bs → Finished (net_of storages g) s → StandAt kind stands storages g (final_position storages g) bs
 stand_end kind stands storages g s bs own done = record {
   number = own.number;
   kinds = own.kinds;

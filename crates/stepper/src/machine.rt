@@ -4,7 +4,7 @@ ghost use Rattle.std.specs.Prelude.{◌≡◌, ◌<◌, ◌^◌, List, length, I
 ghost use Rattle.sam_model.specs.Children.{Ranked};
 ghost use Rattle.graph.specs.Wiring.{WellFormed};
 ghost use Rattle.graph.specs.WholeStreams.{Consistent};
-ghost use Rattle.graph.specs.Standing.{StandAt, at_start};
+ghost use Rattle.graph.specs.Standing.{StandAt, start_position};
 ghost use Rattle.plays.specs.Net.{start};
 ghost use Rattle.stepper.specs.Capacity.{CapacitiesFor};
 ghost use Rattle.stepper.specs.AtState.{AtState};
@@ -75,8 +75,8 @@ impl<B: BlockStep + Drop> Machine<B> {
         requires few_blocks { length g.now.blocks < 2 ^ 32 }
         requires few_channels { length g.now.channels < 2 ^ 32 }
         requires capacities { CapacitiesFor (length g.now.channels) caps.now.each }
-        requires own { ∥ ((storages : List Ranked) × Consistent storages g.now × StandAt B.kind B.stands storages g.now at_start blocks.items) ∥₁ }
-        ensures starts { IfOk result (λ machine. (storages : List Ranked) → Consistent storages g.now → StandAt B.kind B.stands storages g.now at_start blocks.items → AtState B.kind B.stands storages g.now caps.now.each start machine) }
+        requires own { ∥ ((storages : List Ranked) × Consistent storages g.now × StandAt B.kind B.stands storages g.now start_position blocks.items) ∥₁ }
+        ensures starts { IfOk result (λ machine. (storages : List Ranked) → Consistent storages g.now → StandAt B.kind B.stands storages g.now start_position blocks.items → AtState B.kind B.stands storages g.now caps.now.each start machine) }
         ensures same_blocks { IfOk result (λ machine. machine.blocks ≡ blocks.items) }
         ensures queues { IfOk result (λ machine. length machine.queues ≡ length g.now.channels) }
         ensures no_event { IfOk result (λ machine. machine.moves ≡ 0) }

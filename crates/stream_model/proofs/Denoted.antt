@@ -18,7 +18,7 @@ use Rattle.sam_model.specs.Accepted.{term_fits, accepted}
 use Rattle.stream_tokens.specs.Nest.{Leaf}
 use Rattle.stream_tokens.specs.Shapes.{Each}
 use Rattle.stream_tokens.proofs.Algebra.{Each-imp}
-use Rattle.stream_model.specs.Terms.{keep, mask_of, restricted, product_of, whole, operands_of, literals_of, term_data, further_summand, summands_of, summands}
+use Rattle.stream_model.specs.Terms.{keep, mask_of, restricted, product_of, whole_product, operands_of, literals_of, term_data, further_summand, summands_of, summands}
 use Rattle.stream_model.specs.Trees.{all_stored, value_term, sum_there}
 use Rattle.stream_model.specs.Joins.{negated, signed, join_of}
 use Rattle.sam_model.proofs.Lists.{Each-map, Each-flat_map, Each-always, list_any-ext-each}
@@ -97,7 +97,7 @@ times_negative m k l q = mod-mul-mod m (k * l) q ∙ ap (λ (n : ℕ). n % m) (m
 
 -- the sum of a term's products at x, with the sign that its coefficient has
 pub whole-total : (p : Program) (es : List Entries) (first : Bool) (t : Term) (x : List ℕ) → AllPlaced p es t t.factors
-    → total (whole (term_data p es first t)) (fill (loop_list p t) x) % 2 ^ 64 ≡ signed_number (first && t.minus) (term_at p es t x)
+    → total (whole_product (term_data p es first t)) (fill (loop_list p t) x) % 2 ^ 64 ≡ signed_number (first && t.minus) (term_at p es t x)
 whole-total p es first t x h = by_case (first && t.minus)
   where
     long : Each (λ u. length u ≡ length (loops_of p t)) (fill (loop_list p t) x)
@@ -148,7 +148,7 @@ pub term-value : (p : Program) (es : List Entries) (first : Bool) (t : Term) (x 
     → value_term (term_data p es first t) x ≡ cond (has_stored p es x t) (Some (signed_number (first && t.minus) (term_at p es t x))) None
 term-value p es first t x h =
     term-law (term_data p es first t) x
-    ∙ ap (λ b. cond b (Some (total (whole (term_data p es first t)) (fill (loop_list p t) x) % 2 ^ 64)) None) (stored-some p es first t x h)
+    ∙ ap (λ b. cond b (Some (total (whole_product (term_data p es first t)) (fill (loop_list p t) x) % 2 ^ 64)) None) (stored-some p es first t x h)
     ∙ ap (λ (n : ℕ). cond (has_stored p es x t) (Some n) None) (whole-total p es first t x h)
 
 -- ---- a term where nothing is stored

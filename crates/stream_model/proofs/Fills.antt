@@ -7,11 +7,11 @@ use Rattle.std.proofs.lemmas.List.{length_push}
 use Rattle.sam_model.specs.Lists.{below}
 use Rattle.stream_model.specs.Grow.{next}
 use Rattle.stream_model.specs.Terms.{TermData, Summand}
-use Rattle.stream_model.specs.Trees.{free_count, value_reduced, reduced_sizes, begins_value, in_pruned, in_term}
+use Rattle.stream_model.specs.Trees.{free_count, reduced_sizes, in_pruned, in_term}
 use Rattle.stream_model.specs.Joins.{join_of}
-use Rattle.sam_model.proofs.Lists.{not-true, Each-range, filter-ext, list_any-mono, filter-none}
+use Rattle.sam_model.proofs.Lists.{filter-ext, list_any-mono}
 use Rattle.stream_model.proofs.Pruned.{late-test}
-use Rattle.stream_model.proofs.Sides.{begins-shorter, pruned-goes-on}
+use Rattle.stream_model.proofs.Sides.{pruned-goes-on}
 use Rattle.stream_model.proofs.Results.{EachSized}
 
 -- below the levels of pruning the same coordinates follow
@@ -21,18 +21,6 @@ pruned-alike t g f e p h k =
     filter-ext (λ c. in_pruned t g f (p ++ c ∷ [])) (λ c. in_pruned t g e (p ++ c ∷ []))
     (λ c. late-test t g f (p ++ c ∷ []) (omega (arith, length_push p c, h)) ∙ sym (late-test t g e (p ++ c ∷ []) (omega (arith, length_push p c, k))))
     (below (slice_index (reduced_sizes t g) (length p)))
-
--- nothing follows what begins no value
-pub pruned-empty : (t : TermData) (g f : ℕ) (p : List ℕ) → f ≤ suc (length p) → length p < length (reduced_sizes t g)
-    → begins_value (value_reduced t g) (reduced_sizes t g) p ≡ false → next (in_pruned t g f) (reduced_sizes t g) p ≡ []
-pruned-empty t g f p h k e =
-    filter-none (slice_index (reduced_sizes t g) (length p)) (λ c. in_pruned t g f (p ++ c ∷ []))
-    (λ c l.
-    late-test t g f (p ++ c ∷ []) (omega (arith, length_push p c, h))
-    ∙ not-true (begins_value (value_reduced t g) (reduced_sizes t g) (p ++ c ∷ []))
-    (λ b. sym e ∙ begins-shorter (value_reduced t g) (reduced_sizes t g) p c k l b))
-    (below (slice_index (reduced_sizes t g) (length p)))
-    (Each-range 0 (slice_index (reduced_sizes t g) (length p)) (slice_index (reduced_sizes t g) (length p)) (omega arith))
 
 -- each prefix of a join that isn't empty or full goes on
 pub join-goes-on : (sizes : List ℕ) (ss : List Summand) → EachSized sizes ss → (p : List ℕ) → 0 < length p → length p < length sizes

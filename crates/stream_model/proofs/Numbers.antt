@@ -1,18 +1,14 @@
 -- Masks as numbers, and as unions of single accesses.
-use Rattle.std.specs.Prelude.{◌≡◌, ◌<◌, ◌⊎◌, ℕ, zero, suc, ◌^◌, ◌/◌, max, Bool, false, ◌||◌, List, [], ◌∷◌, length, get_or, eqb, refl}
+use Rattle.std.specs.Prelude.{◌≡◌, ◌<◌, ◌⊎◌, ℕ, zero, suc, ◌^◌, ◌/◌, max, false, ◌||◌, List, [], ◌∷◌, length, get_or, eqb, refl}
 use Rattle.std.specs.Int.{bit_at}
 use Rattle.std.specs.Int.Bits.{bit_or}
 use Rattle.std.proofs.Common.{arith, sym, ◌∙◌, ap, inl, inr}
-use Rattle.std.proofs.Math.Bool.{or_assoc}
 use Rattle.std.proofs.lemmas.Bool.{cases_eq, eq-eqb, ne_eqb}
 use Rattle.std.proofs.lemmas.Bool.Decides.{nat_tests}
 use Rattle.std.proofs.lemmas.Nat.Bits.{bit_at_or, bit_at-lt, bit_at_lowest, bit_at-pow_same, bit_at-pow_other, bit_at-suc}
-use Rattle.sam_model.specs.Lists.{is_in}
-use Rattle.stream_model.specs.Terms.{TermData, access_at}
 use Rattle.stream_model.specs.Labels.{bits}
-use Rattle.stream_model.specs.Masks.{only, any_of, final}
-use Rattle.sam_model.proofs.Lists.{or-false}
-use Rattle.stream_model.proofs.Masks.{length-only, bit-only, length-any_of, bit-any_of, mask-ext, bit-final, length-final}
+use Rattle.stream_model.specs.Masks.{only, any_of}
+use Rattle.stream_model.proofs.Masks.{length-only, bit-only, length-any_of, bit-any_of, mask-ext}
 
 -- ---- the mask of a number
 
@@ -54,11 +50,6 @@ bits-any_of n a b =
 
 -- ---- unions of single accesses
 
--- a mask with these accesses, too
-abbrev pub union_with : ℕ → List Bool → List ℕ → List Bool
-union_with n m [] = m
-union_with n m (f ∷ fs) = union_with n (any_of m (only n f)) fs
-
 -- each of these is an access, of n
 abbrev pub AllBelow : ℕ → List ℕ → Type 0
 AllBelow n [] = Unit {0}
@@ -67,32 +58,3 @@ AllBelow n (f ∷ fs) = (f < n) × AllBelow n fs
 -- whether two numbers are equal, either way round
 pub turned : (f g : ℕ) → eqb f g ≡ eqb g f
 turned f g = grind (arith, nat_tests)
-
-pub bit-union : (n : ℕ) (m : List Bool) (fs : List ℕ) (g : ℕ) → AllBelow n fs → get_or (union_with n m fs) g false ≡ (get_or m g false || is_in g fs)
-bit-union n m [] g h = sym (or-false (get_or m g false))
-bit-union n m (f ∷ fs) g h =
-    bit-union n (any_of m (only n f)) fs g h.1
-    ∙ ap (λ b. b || is_in g fs) (bit-any_of m (only n f) g ∙ ap (λ b. get_or m g false || b) (bit-only n f g h.0 ∙ turned f g))
-    ∙ or_assoc (get_or m g false) (eqb g f) (is_in g fs)
-
-pub length-union : (n : ℕ) (m : List Bool) (fs : List ℕ) → length m ≡ n → length (union_with n m fs) ≡ n
-length-union n m [] h = h
-length-union n m (f ∷ fs) h =
-    length-union n (any_of m (only n f)) fs (length-any_of m (only n f) (h ∙ sym (length-only n f)) ∙ length-only n f)
-
--- the accesses that have a loop make the final mask of its level
-pub final-union : (t : TermData) (d f : ℕ) (fs : List ℕ) → f < length t.accesses → AllBelow (length t.accesses) fs
-    → ((g : ℕ) → g < length t.accesses → get_or (access_at t.accesses g).has d false ≡ is_in g (f ∷ fs))
-    → union_with (length t.accesses) (only (length t.accesses) f) fs ≡ final t (suc d)
-final-union t d f fs h k e =
-    mask-ext (union_with (length t.accesses) (only (length t.accesses) f) fs) (final t (suc d))
-    (length-union (length t.accesses) (only (length t.accesses) f) fs (length-only (length t.accesses) f) ∙ sym (length-final t d)) one
-  where
-    one : (g : ℕ) → g < length (union_with (length t.accesses) (only (length t.accesses) f) fs)
-        → get_or (union_with (length t.accesses) (only (length t.accesses) f) fs) g false ≡ get_or (final t (suc d)) g false
-    one g l =
-        let inside : g < length t.accesses = omega (arith, l, length-union (length t.accesses) (only (length t.accesses) f) fs (length-only (length t.accesses) f)) in
-        bit-union (length t.accesses) (only (length t.accesses) f) fs g k
-        ∙ ap (λ b. b || is_in g fs) (bit-only (length t.accesses) f g h ∙ turned f g)
-        ∙ sym (e g inside)
-        ∙ sym (bit-final t d g inside)

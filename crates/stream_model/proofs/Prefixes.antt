@@ -7,21 +7,17 @@ use Rattle.sam_model.specs.Tensors.{is_stored}
 use Rattle.stream_model.specs.Terms.{Operand, TermData, keep, restricted, access_at}
 use Rattle.stream_model.specs.Trees.{admits, all_admit, everyone, grows, in_whole, all_stored}
 use Rattle.sam_model.proofs.Lists.{and-true, same-test}
-use Rattle.stream_model.proofs.Masks.{all_admit-gives}
 use Rattle.sam_model.proofs.Stored.{stored-begins}
+
+-- nothing is kept of nothing
+pub keep-none : (mask : List Bool) → keep mask [] ≡ []
+keep-none [] = refl
+keep-none (b ∷ mask) = refl
 
 pub keep-longer : (mask : List Bool) (u : List ℕ) (c : ℕ) → keep mask (u ++ c ∷ []) ≡ keep mask u ++ cond (get_or mask (length u) false) (c ∷ []) []
 keep-longer [] u c = refl
-keep-longer (true ∷ mask) [] c = ap (λ (x : List ℕ). c ∷ x) (keep_none mask)
-  where
-    keep_none : (mask : List Bool) → keep mask [] ≡ []
-    keep_none [] = refl
-    keep_none (b ∷ mask) = refl
-keep-longer (false ∷ mask) [] c = keep_none mask
-  where
-    keep_none : (mask : List Bool) → keep mask [] ≡ []
-    keep_none [] = refl
-    keep_none (b ∷ mask) = refl
+keep-longer (true ∷ mask) [] c = ap (λ (x : List ℕ). c ∷ x) (keep-none mask)
+keep-longer (false ∷ mask) [] c = keep-none mask
 keep-longer (true ∷ mask) (x ∷ u) c = ap (λ (y : List ℕ). x ∷ y) (keep-longer mask u c)
 keep-longer (false ∷ mask) (x ∷ u) c = keep-longer mask u c
 
@@ -89,11 +85,7 @@ grown_stored accesses u (c ∷ p) =
 
 at_root : (accesses : List Operand) → stored_each accesses [] ≡ true
 at_root [] = refl
-at_root (a ∷ accesses) = ap (λ (x : List ℕ). is_stored a.tensor x && stored_each accesses []) (keep_none a.has) ∙ at_root accesses
-  where
-    keep_none : (mask : List Bool) → keep mask [] ≡ []
-    keep_none [] = refl
-    keep_none (b ∷ mask) = refl
+at_root (a ∷ accesses) = ap (λ (x : List ℕ). is_stored a.tensor x && stored_each accesses []) (keep-none a.has) ∙ at_root accesses
 
 -- the product tree of a term has the prefixes at which all its accesses are stored
 pub whole-stored : (t : TermData) (u : List ℕ) → in_whole t u ≡ all_stored t u
@@ -111,9 +103,3 @@ list_all_at (a ∷ accesses) u (suc f) h k =
 pub access-stored : (t : TermData) (u : List ℕ) (f : ℕ) → in_whole t u ≡ true → f < length t.accesses
     → is_stored (access_at t.accesses f).tensor (restricted (access_at t.accesses f) u) ≡ true
 access-stored t u f h k = list_all_at t.accesses u f (sym (whole-stored t u) ∙ h) k
-
--- a coordinate that a mask admits makes a longer stored prefix at each access of the mask
-pub asked-stored : (t : TermData) (mask : List Bool) (u : List ℕ) (c f : ℕ) → in_whole t u ≡ true → all_admit mask t.accesses u c ≡ true → f < length t.accesses
-    → get_or mask f false ≡ true → is_stored (access_at t.accesses f).tensor (restricted (access_at t.accesses f) (u ++ c ∷ [])) ≡ true
-asked-stored t mask u c f h m k e =
-    sym (admits-stored (access_at t.accesses f) u c (access-stored t u f h k)) ∙ all_admit-gives mask t.accesses u c f m k e

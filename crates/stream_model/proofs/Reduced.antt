@@ -11,7 +11,7 @@ use Rattle.sam_model.specs.Denote.{Loop, fill}
 use Rattle.stream_tokens.specs.Nest.{Leaf}
 use Rattle.stream_tokens.proofs.Algebra.{map-map, map-same}
 use Rattle.stream_model.specs.Grow.{longer, path_fibers}
-use Rattle.stream_model.specs.Terms.{TermData, whole}
+use Rattle.stream_model.specs.Terms.{TermData, whole_product}
 use Rattle.stream_model.specs.Trees.{grows, everyone, in_whole, free_count, kept_loops, kept_sizes, until, plus_there, sum_there, in_reduced, value_whole, value_reduced, reduced_sizes}
 use Rattle.stream_model.specs.Labels.{loop_sizes}
 use Rattle.stream_model.specs.Reduction.{Reduces}
@@ -263,7 +263,7 @@ reduced-closed t g p q h = not-true (in_reduced t g (p ++ q)) (λ k. sym h ∙ r
 there : (t : TermData) (u : List ℕ) → is_some (value_whole t u) ≡ in_whole t u
 there t u = by_case (in_whole t u)
   where
-    by_case : (b : Bool) → is_some (cond b (Some (whole t u)) None) ≡ b
+    by_case : (b : Bool) → is_some (cond b (Some (whole_product t u)) None) ≡ b
     by_case true = refl
     by_case false = refl
 

@@ -13,12 +13,12 @@ use Rattle.sam_model.specs.Denote.{loop_list, term_at, den, pat, result_entries}
 use Rattle.sam_model.specs.Accepted.{term_fits, accepted}
 use Rattle.stream_tokens.specs.Shapes.{on_tokens, Each}
 use Rattle.stream_tokens.proofs.Algebra.{map-map, Each-imp}
-use Rattle.stream_model.specs.declared.labels.Attr.TheVariants.{Coordinate, Value}
+use Rattle.stream_model.specs.declared.labels.Attr.TheVariants.{Value}
 use Rattle.stream_model.specs.Grow.{path_fibers}
 use Rattle.stream_model.specs.Terms.{TermData, Summand, term_data, further_summand, summands_of, summands}
 use Rattle.stream_model.specs.Trees.{free_count, value_reduced, reduced_sizes, begins_value, in_pruned, in_term, value_term}
 use Rattle.stream_model.specs.Joins.{join_of}
-use Rattle.stream_model.specs.Labels.{Shape, last, result_sizes, joined_shape, fibers_at}
+use Rattle.stream_model.specs.Labels.{Shape, result_sizes, joined_shape, fibers_at}
 use Rattle.sam_model.proofs.Lists.{not-true, map-ext-each, filter-ext, filter-ext-each}
 use Rattle.stream_model.proofs.Places.{AllPlaced, accepted-terms, term-sizes}
 use Rattle.stream_model.proofs.Pruned.{late-test, begins-full}
@@ -173,15 +173,6 @@ module _ (p : Program) (es : List Entries) (n : ℕ) where
       ap (λ part. in_order (path_fibers part.has (result_sizes p) (length (result_sizes p))))
       (joined-all (summands p es) n (omega (arith, k, length-summands p es p.terms)))
       ∙ result-paths p es h e (omega (arith, k)) m
-
-  -- the coordinates of the last level, in order, are those of the result's entries
-  pub result-coordinates : accepted p ≡ true → length es ≡ length p.tensors → suc n ≡ length p.terms → 0 < length (result_sizes p)
-      → in_order (fibers_at (joined_shape (result_sizes p) (summands p es) n (length (result_sizes p))) Coordinate)
-      ≡ map (λ entry. Some (last entry.0)) (result_entries p es)
-  result-coordinates h e k m =
-      in_order-tokens (λ x. Some (last x)) (path_fibers last_shape.ok (result_sizes p) (length (result_sizes p)))
-      ∙ ap (map (λ x. Some (last x))) (last_paths h e k m)
-      ∙ sym (map-map (λ (entry : List ℕ × ℕ). Some (last entry.0)) (λ x. (x, den p es x)) (filter (pat p es) (tuples (result_sizes p))))
 
   -- and the values, in order, are theirs
   pub result-values : accepted p ≡ true → length es ≡ length p.tensors → suc n ≡ length p.terms → 0 < length (result_sizes p)

@@ -16,7 +16,7 @@ use Rattle.stream_model.specs.Grow.{next, longer, path_fibers}
 use Rattle.stream_model.specs.declared.labels.Side.TheVariants.{Left, Right}
 use Rattle.stream_model.specs.Terms.{TermData, Summand, no_summand, summand_at}
 use Rattle.stream_model.specs.Trees.{free_count, in_reduced, value_reduced, reduced_sizes, begins_value, in_pruned, in_term, value_term, plus_there, sum_there}
-use Rattle.stream_model.specs.Joins.{negated, signed, join_of, joined, side_part, in_beside}
+use Rattle.stream_model.specs.Joins.{negated, signed, join_of, side_part, in_beside, join_upto}
 use Rattle.sam_model.proofs.Lists.{not-true, or-false, list_any-mono, filter-ext}
 use Rattle.stream_model.proofs.Grown.{InTree, tokens-suc, paths-InTree, paths-same}
 use Rattle.stream_model.proofs.Sums.{plus-none, sum-append}
@@ -89,7 +89,7 @@ map_both f (x ∷ xs) ys = ap (λ (t : List Leaf). f x ∷ t) (map_both f xs ys)
 
 -- a join is the union of its sides
 pub joined-has : (ss : List Summand) (last : ℕ) (p : List ℕ) → last < length ss
-    → (joined ss last).has p ≡ ((side_part ss last Left).has p || (side_part ss last Right).has p)
+    → (join_upto ss last).has p ≡ ((side_part ss last Left).has p || (side_part ss last Right).has p)
 joined-has ss last p h =
     ap (list_any (λ s. in_term s.term p)) (take-suc ss last no_summand h)
     ∙ list_any-append (λ s. in_term s.term p) (take last ss) (summand_at ss last ∷ [])
@@ -97,7 +97,7 @@ joined-has ss last p h =
 
 -- with the sum of their values, the right one's with its sign
 pub joined-value : (ss : List Summand) (last : ℕ) (p : List ℕ) → last < length ss
-    → (joined ss last).value p
+    → (join_upto ss last).value p
     ≡ plus_there ((side_part ss last Left).value p)
     (cond (summand_at ss last).minus (negated ((side_part ss last Right).value p)) ((side_part ss last Right).value p))
 joined-value ss last p h =
@@ -107,15 +107,15 @@ joined-value ss last p h =
     ∙ ap (plus_there (sum_there (map (λ s. signed s p) (take last ss)))) (plus-none (signed (summand_at ss last) p))
 
 -- the left side of a join is the join before it
-pub joined-left : (ss : List Summand) (last : ℕ) → side_part ss (suc last) Left ≡ joined ss last
+pub joined-left : (ss : List Summand) (last : ℕ) → side_part ss (suc last) Left ≡ join_upto ss last
 joined-left ss last = refl
 
 -- the first of them is a term alone
-pub joined-first : (s : Summand) (ss : List Summand) (p : List ℕ) → ((joined (s ∷ ss) 0).has p ≡ in_term s.term p) × ((joined (s ∷ ss) 0).value p ≡ signed s p)
+pub joined-first : (s : Summand) (ss : List Summand) (p : List ℕ) → ((join_upto (s ∷ ss) 0).has p ≡ in_term s.term p) × ((join_upto (s ∷ ss) 0).value p ≡ signed s p)
 joined-first s ss p = (or-false (in_term s.term p), plus-none (signed s p))
 
 -- the last of them has all terms
-pub joined-all : (ss : List Summand) (last : ℕ) → suc last ≡ length ss → joined ss last ≡ join_of ss
+pub joined-all : (ss : List Summand) (last : ℕ) → suc last ≡ length ss → join_upto ss last ≡ join_of ss
 joined-all ss last h = ap join_of (take_all (suc last) ss (omega (arith, h)))
 
 -- ---- beneath a join
@@ -126,26 +126,26 @@ is_shorter n d x y h = let e : ltb n d ≡ true = grind (arith, nat_tests) in rw
 is_last : (n d : ℕ) (x y : Bool) → n ≡ d → cond (ltb n d) x y ≡ y
 is_last n d x y h = let e : ltb n d ≡ false = grind (arith, nat_tests) in rw e refl
 
-beside_upper : (sizes : List ℕ) (ss : List Summand) (last : ℕ) (side : Side) (d : ℕ) → (joined ss last).has [] ≡ true
-    → path_fibers (in_beside ss last side (suc d)) sizes d ≡ path_fibers (joined ss last).has sizes d
-beside_upper sizes ss last side d root = paths-same (in_beside ss last side (suc d)) (joined ss last).has sizes sizes (here root) d step
+beside_upper : (sizes : List ℕ) (ss : List Summand) (last : ℕ) (side : Side) (d : ℕ) → (join_upto ss last).has [] ≡ true
+    → path_fibers (in_beside ss last side (suc d)) sizes d ≡ path_fibers (join_upto ss last).has sizes d
+beside_upper sizes ss last side d root = paths-same (in_beside ss last side (suc d)) (join_upto ss last).has sizes sizes (here root) d step
   where
-    here : (joined ss last).has [] ≡ true → in_beside ss last side (suc d) [] ≡ true
-    here r = is_shorter 0 (suc d) ((joined ss last).has []) ((side_part ss last side).has []) (omega arith) ∙ r
+    here : (join_upto ss last).has [] ≡ true → in_beside ss last side (suc d) [] ≡ true
+    here r = is_shorter 0 (suc d) ((join_upto ss last).has []) ((side_part ss last side).has []) (omega arith) ∙ r
 
     step : (n : ℕ) (p : List ℕ) → n < d → InTree (in_beside ss last side (suc d)) sizes n p
-        → longer (in_beside ss last side (suc d)) sizes p ≡ longer (joined ss last).has sizes p
+        → longer (in_beside ss last side (suc d)) sizes p ≡ longer (join_upto ss last).has sizes p
     step n p k i =
         ap (λ (cs : List ℕ). map (λ c. p ++ c ∷ []) cs)
-        (filter-ext (λ c. in_beside ss last side (suc d) (p ++ c ∷ [])) (λ c. (joined ss last).has (p ++ c ∷ []))
-        (λ c. is_shorter (length (p ++ c ∷ [])) (suc d) ((joined ss last).has (p ++ c ∷ [])) ((side_part ss last side).has (p ++ c ∷ []))
+        (filter-ext (λ c. in_beside ss last side (suc d) (p ++ c ∷ [])) (λ c. (join_upto ss last).has (p ++ c ∷ []))
+        (λ c. is_shorter (length (p ++ c ∷ [])) (suc d) ((join_upto ss last).has (p ++ c ∷ [])) ((side_part ss last side).has (p ++ c ∷ []))
         (omega (arith, length_push p c, i.count, k)))
         (below (slice_index sizes (length p))))
 
 -- the tokens of a side beneath the joined prefixes that are one shorter
-pub beside-tokens : {B : Type 0} (sizes : List ℕ) (ss : List Summand) (last : ℕ) (side : Side) (d : ℕ) (tok : List ℕ → B) → (joined ss last).has [] ≡ true
+pub beside-tokens : {B : Type 0} (sizes : List ℕ) (ss : List Summand) (last : ℕ) (side : Side) (d : ℕ) (tok : List ℕ → B) → (join_upto ss last).has [] ≡ true
     → on_tokens tok (path_fibers (in_beside ss last side (suc d)) sizes (suc d))
-    ≡ under (λ p. map (λ c. tok (p ++ c ∷ [])) (next (side_part ss last side).has sizes p)) (path_fibers (joined ss last).has sizes d)
+    ≡ under (λ p. map (λ c. tok (p ++ c ∷ [])) (next (side_part ss last side).has sizes p)) (path_fibers (join_upto ss last).has sizes d)
 beside-tokens sizes ss last side d tok root =
     tokens-suc (in_beside ss last side (suc d)) sizes d tok
     ∙ under-ext (InTree (in_beside ss last side (suc d)) sizes d)
@@ -153,7 +153,7 @@ beside-tokens sizes ss last side d tok root =
     (λ p. map (λ c. tok (p ++ c ∷ [])) (next (side_part ss last side).has sizes p)) one
     (path_fibers (in_beside ss last side (suc d)) sizes d)
     (paths-InTree (in_beside ss last side (suc d)) sizes
-    (is_shorter 0 (suc d) ((joined ss last).has []) ((side_part ss last side).has []) (omega arith) ∙ root) d)
+    (is_shorter 0 (suc d) ((join_upto ss last).has []) ((side_part ss last side).has []) (omega arith) ∙ root) d)
     ∙ ap (under (λ p. map (λ c. tok (p ++ c ∷ [])) (next (side_part ss last side).has sizes p))) (beside_upper sizes ss last side d root)
   where
     one : (p : List ℕ) → InTree (in_beside ss last side (suc d)) sizes d p
@@ -161,6 +161,6 @@ beside-tokens sizes ss last side d tok root =
     one p i =
         ap (map (λ c. tok (p ++ c ∷ [])))
         (filter-ext (λ c. in_beside ss last side (suc d) (p ++ c ∷ [])) (λ c. (side_part ss last side).has (p ++ c ∷ []))
-        (λ c. is_last (length (p ++ c ∷ [])) (suc d) ((joined ss last).has (p ++ c ∷ [])) ((side_part ss last side).has (p ++ c ∷ []))
+        (λ c. is_last (length (p ++ c ∷ [])) (suc d) ((join_upto ss last).has (p ++ c ∷ [])) ((side_part ss last side).has (p ++ c ∷ []))
         (omega (arith, length_push p c, i.count)))
         (below (slice_index sizes (length p))))

@@ -27,8 +27,5 @@ fibers_of-stream_at s a =
 pub stream_at-IsStream : (s : Shape) (a : Attr) → s.depth ≤ 200 → IsStream (stream_at s a)
 stream_at-IsStream s a h = (s.depth, h, told s a, refl)
 
-pub label_stream-flat : (p : Program) (es : List Entries) (l : Label) → label_stream p es l ≡ flat leaf (fibers_at (shape_of p es l.tree) l.attr)
-label_stream-flat p es l = stream_at-flat (shape_of p es l.tree) l.attr
-
 pub label_stream-IsStream : (p : Program) (es : List Entries) (l : Label) → (shape_of p es l.tree).depth ≤ 200 → IsStream (label_stream p es l)
 label_stream-IsStream p es l h = stream_at-IsStream (shape_of p es l.tree) l.attr h

@@ -8,7 +8,7 @@ use Rattle.std.proofs.lemmas.Bool.Decides.{nat_tests}
 use Rattle.sam_model.specs.Lists.{total}
 use Rattle.sam_model.specs.Tensors.{is_stored, value_at}
 use Rattle.sam_model.specs.Denote.{Loop, fill}
-use Rattle.stream_model.specs.Terms.{Operand, TermData, restricted, product_of, whole}
+use Rattle.stream_model.specs.Terms.{Operand, TermData, restricted, product_of, whole_product}
 use Rattle.stream_model.specs.Trees.{in_whole, all_stored, free_count, kept_loops, value_whole, sum_there, value_term}
 use Rattle.sam_model.proofs.Lists.{list_any-ext}
 use Rattle.sam_model.proofs.Stored.{value-unstored}
@@ -40,16 +40,16 @@ no_product (a ∷ accesses) u h = by_case (is_stored a.tensor (restricted a u)) 
     by_case true e k r = ap (λ (n : ℕ). value_at a.tensor (restricted a u) * n) (r k) ∙ mul-zero (value_at a.tensor (restricted a u))
     by_case false e k r = ap (λ (n : ℕ). n * product_of accesses u) (value-unstored a.tensor (restricted a u) e) ∙ zero-mul (product_of accesses u)
 
-pub whole-outside : (t : TermData) (u : List ℕ) → all_stored t u ≡ false → whole t u ≡ 0
+pub whole-outside : (t : TermData) (u : List ℕ) → all_stored t u ≡ false → whole_product t u ≡ 0
 whole-outside t u h =
     ap (λ (n : ℕ). (t.coefficient * n) % 2 ^ 64) (no_product t.accesses u h) ∙ ap (λ (n : ℕ). n % 2 ^ 64) (mul-zero t.coefficient)
 
 -- ---- the law
 
 pub term-law : (t : TermData) (x : List ℕ)
-    → value_term t x ≡ cond (list_any (all_stored t) (fill t.loops x)) (Some (total (whole t) (fill t.loops x) % 2 ^ 64)) None
+    → value_term t x ≡ cond (list_any (all_stored t) (fill t.loops x)) (Some (total (whole_product t) (fill t.loops x) % 2 ^ 64)) None
 term-law t x =
     ap (λ (ls : List Loop). sum_there (map (value_whole t) (fill ls x))) (kept-none (free_count t.loops) t.loops (omega arith))
-    ∙ sum-passes (in_whole t) (whole t) (λ u h. whole-outside t u (sym (whole-stored t u) ∙ h))
+    ∙ sum-passes (in_whole t) (whole_product t) (λ u h. whole-outside t u (sym (whole-stored t u) ∙ h))
     (λ u. mod-mod (t.coefficient * product_of t.accesses u) (2 ^ 64)) (fill t.loops x)
-    ∙ ap (λ b. cond b (Some (total (whole t) (fill t.loops x) % 2 ^ 64)) None) (list_any-ext (in_whole t) (all_stored t) (whole-stored t) (fill t.loops x))
+    ∙ ap (λ b. cond b (Some (total (whole_product t) (fill t.loops x) % 2 ^ 64)) None) (list_any-ext (in_whole t) (all_stored t) (whole-stored t) (fill t.loops x))

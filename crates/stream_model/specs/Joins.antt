@@ -28,8 +28,8 @@ join_of ss = record {
 }
 
 -- the terms up to number last
-abbrev pub joined : List Summand → ℕ → Part
-joined ss last = join_of (take (suc last) ss)
+abbrev pub join_upto : List Summand → ℕ → Part
+join_upto ss last = join_of (take (suc last) ss)
 
 -- the sides of this join: the terms before last, and term last as if it were added
 abbrev pub side_part : List Summand → ℕ → Side → Part
@@ -38,4 +38,4 @@ side_part ss last Right = let t = (summand_at ss last).term in record { has = in
 
 -- joined prefixes shorter than d, and those of length d that the side has
 abbrev pub in_beside : List Summand → ℕ → Side → ℕ → List ℕ → Bool
-in_beside ss last side d p = cond (ltb (length p) d) ((joined ss last).has p) ((side_part ss last side).has p)
+in_beside ss last side d p = cond (ltb (length p) d) ((join_upto ss last).has p) ((side_part ss last side).has p)

@@ -16,9 +16,9 @@ use Rattle.stream_model.specs.declared.labels.Attr.{Attr}
 use Rattle.stream_model.specs.declared.labels.Attr.TheVariants.{Coordinate, Rank, FactorValue, Partial, Whole, Value, Present, SideValue, Literal}
 use Rattle.stream_model.specs.declared.labels.Label.{Label}
 use Rattle.stream_model.specs.Grow.{paths, path_fibers}
-use Rattle.stream_model.specs.Terms.{TermData, Summand, restricted, access_at, partial, whole, summands, summand_at, no_term}
+use Rattle.stream_model.specs.Terms.{TermData, Summand, restricted, access_at, partial_product, whole_product, summands, summand_at, no_term}
 use Rattle.stream_model.specs.Trees.{in_product, in_pruned, value_reduced, reduced_sizes}
-use Rattle.stream_model.specs.Joins.{Part, joined, side_part, in_beside}
+use Rattle.stream_model.specs.Joins.{Part, join_upto, side_part, in_beside}
 
 -- A tree and what can be told of its prefixes: the test and the sizes that it grows by, its depth, the term that its
 -- factors are of and which prefixes that term has, and the values of the tree and of the sides that it joins.
@@ -75,12 +75,12 @@ result_sizes p = items_at p.result.dims p.result.order
 
 abbrev pub joined_shape : List ℕ → List Summand → ℕ → ℕ → Shape
 joined_shape sizes ss last depth = record {
-  ok = (joined ss last).has;
+  ok = (join_upto ss last).has;
   sizes = sizes;
   depth = depth;
   has = λ _. true;
   term = no_term;
-  value = (joined ss last).value;
+  value = (join_upto ss last).value;
   sides = side_part ss last;
 }
 
@@ -120,8 +120,8 @@ abbrev pub token : Shape → Attr → List ℕ → Leaf
 token s Coordinate p = Some (last p)
 token s (Rank f) p = only_where s.has (λ q. let a = access_at s.term.accesses f in Some (rank_of a.tensor (restricted a q))) p
 token s (FactorValue f) p = only_where s.has (λ q. let a = access_at s.term.accesses f in Some (value_at a.tensor (restricted a q))) p
-token s (Partial k) p = only_where s.has (λ q. Some (partial (take k s.term.accesses) q)) p
-token s Whole p = only_where s.has (λ q. Some (whole s.term q)) p
+token s (Partial k) p = only_where s.has (λ q. Some (partial_product (take k s.term.accesses) q)) p
+token s Whole p = only_where s.has (λ q. Some (whole_product s.term q)) p
 token s Value p = s.value p
 token s (Present side) p = cond ((s.sides side).has p) (Some 1) None
 token s (SideValue side) p = (s.sides side).value p

@@ -41,12 +41,12 @@ product_of [] u = 1
 product_of (a ∷ accesses) u = value_at a.tensor (restricted a u) * product_of accesses u
 
 -- the product of these accesses at u
-abbrev pub partial : List Operand → List ℕ → ℕ
-partial accesses u = product_of accesses u % 2 ^ 64
+abbrev pub partial_product : List Operand → List ℕ → ℕ
+partial_product accesses u = product_of accesses u % 2 ^ 64
 
 -- the product of all factors at u
-abbrev pub whole : TermData → List ℕ → ℕ
-whole t u = (t.coefficient * product_of t.accesses u) % 2 ^ 64
+abbrev pub whole_product : TermData → List ℕ → ℕ
+whole_product t u = (t.coefficient * product_of t.accesses u) % 2 ^ 64
 
 -- ---- the terms of a program
 

@@ -6,7 +6,7 @@ use Rattle.stream_tokens.specs.Nest.{Leaf}
 use Rattle.sam_model.specs.Lists.{tuples}
 use Rattle.sam_model.specs.Tensors.{is_stored}
 use Rattle.sam_model.specs.Denote.{Loop, fill}
-use Rattle.stream_model.specs.Terms.{Operand, TermData, restricted, whole}
+use Rattle.stream_model.specs.Terms.{Operand, TermData, restricted, whole_product}
 
 -- ---- product trees
 
@@ -82,7 +82,7 @@ abbrev pub in_reduced : TermData → ℕ → List ℕ → Bool
 in_reduced t g p = list_any (in_whole t) (fill (until (length p) (kept_loops g t.loops)) p)
 
 abbrev pub value_whole : TermData → List ℕ → Leaf
-value_whole t u = cond (in_whole t u) (Some (whole t u)) None
+value_whole t u = cond (in_whole t u) (Some (whole_product t u)) None
 
 -- the sum over all tuples of the product tree that have these coordinates
 abbrev pub value_reduced : TermData → ℕ → List ℕ → Leaf

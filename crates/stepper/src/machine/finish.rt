@@ -4,7 +4,7 @@ ghost use Rattle.std.specs.Prelude.{◌≡◌, ◌<◌, ◌≤◌, ◌^◌, ℕ,
 ghost use Rattle.sam_model.specs.Children.{Ranked};
 ghost use Rattle.sam_base.specs.declared.faults.Waiting.{Waiting as Waits};
 ghost use Rattle.graph.specs.declared.graphs.Graph.{Graph};
-ghost use Rattle.graph.specs.Standing.{StandAt, at_end};
+ghost use Rattle.graph.specs.Standing.{StandAt, final_position};
 ghost use Rattle.plays.specs.Net.{State, Stuck, Finished, can};
 ghost use Rattle.stepper.specs.AtState.{AtState, Wherever};
 ghost use Rattle.plays.specs.Told.{HasLists};
@@ -206,7 +206,7 @@ impl<B: BlockStep + Drop> Machine<B> {
         ensures onwards { Onwards B.kind B.stands self.old (T.told tap.old) self.new (T.told tap.new) }
         ensures stuck { IfOk result (λ _. Wherever B.kind B.stands self.new Stuck) }
         ensures finished { result ≡ Ok Ending.Finished → Wherever B.kind B.stands self.new (λ net rooms s. Finished net s) }
-        ensures blocks_end { result ≡ Ok Ending.Finished → (storages : List Ranked) (g : Graph) (caps : List (Option ℕ)) (s : State) → AtState B.kind B.stands storages g caps s self.new → StandAt B.kind B.stands storages g (at_end storages g) self.new.blocks }
+        ensures blocks_end { result ≡ Ok Ending.Finished → (storages : List Ranked) (g : Graph) (caps : List (Option ℕ)) (s : State) → AtState B.kind B.stands storages g caps s self.new → StandAt B.kind B.stands storages g (final_position storages g) self.new.blocks }
         ensures stalled { (list : List Waits) → result ≡ Ok (Ending.Stalled list) → Wherever B.kind B.stands self.new (λ net rooms s. (list ≡ waiting_list net s) × (Finished net s → ⊥)) }
         ensures same_shape { SameShape self.old self.new }
         ensures lists_stay { HasLists (length self.old.queues) (T.told tap.new) }

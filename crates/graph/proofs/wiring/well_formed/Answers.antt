@@ -1,14 +1,14 @@
 use Rattle.std.proofs.Common.{◌≡◌, length, vec_len, arith}
 use Rattle.std.proofs.lemmas.Grind.{common_steps}
 use Rattle.std.proofs.lemmas.Bool.{eqb-true, eq-eqb}
-use Rattle.graph.specs.Joined.{Joined}
+use Rattle.graph.specs.Joined.{IsJoined}
 use Rattle.graph.specs.Order.{place_in}
 use Rattle.graph.proofs.Formed.{well-formed}
 use Rattle.graph.proofs.wiring.well_formed.Goals as goal
 
 pub returns : goal.returns
 returns c =
-    let joined : Joined c.args.g.now = record {
+    let joined : IsJoined c.args.g.now = record {
       blocks = c.blocks_fit.ensures.0 c.if-not-blocks_fit.false;
       channels = c.channels_fit.ensures.0 c.if-not-channels_fit.false;
     } in

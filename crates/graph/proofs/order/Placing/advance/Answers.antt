@@ -2,7 +2,7 @@ use Rattle.std.proofs.Common.{◌≡◌, ◌<◌, ◌≤◌, ℕ, List, [], ◌�
 use Rattle.graph.specs.declared.order.Progress.TheVariants.{Placed}
 use Rattle.graph.specs.declared.graphs.Block.{Block}
 use Rattle.graph.specs.Wiring.{block}
-use Rattle.graph.specs.Placing.{Kept}
+use Rattle.graph.specs.Placing.{IsPlacing}
 use Rattle.graph.proofs.Placing.{reached-read, kept-on, kept-placed}
 use Rattle.graph.proofs.order.Placing.advance.Goals as goal
 
@@ -22,7 +22,7 @@ returns-in_ok-push-clause-kept c =
     let same : length c.block.result.now.ins ≡ length (block c.args.g.now c.args.b).ins = ap (λ (x : Block). length x.ins) c.block.ensures in
     omega (arith, most, same, c.len.ensures, c.if-port-len.false) in
     let long : c.push.new.self.items ≡ c.args.self.now.order.items ++ c.args.b ∷ [] = c.in_ok-push.ensures.items in
-    subst (λ (xs : List ℕ). Kept c.args.g.now xs (set c.args.self.now.progress.items c.args.b Placed)) (sym long)
+    subst (λ (xs : List ℕ). IsPlacing c.args.g.now xs (set c.args.self.now.progress.items c.args.b Placed)) (sym long)
     (kept-placed c.args.g.now c.args.self.now.order.items c.args.self.now.progress.items c.args.b c.in-WaitsAt.from
     c.requires.kept c.requires.block
     (reached-read c.args.self.now.progress.items c.args.b c.in-WaitsAt.from c.index.result.now there c.index.ensures c.in-WaitsAt.is)

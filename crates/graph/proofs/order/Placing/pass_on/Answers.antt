@@ -2,7 +2,7 @@ use Rattle.std.proofs.Common.{◌≡◌, ◌≤◌, ℕ, List, length, ◌∙◌
 use Rattle.graph.specs.declared.order.Progress.TheVariants.{WaitsAt}
 use Rattle.graph.specs.declared.graphs.Block.{Block}
 use Rattle.graph.specs.Wiring.{block, channel, out_of}
-use Rattle.graph.specs.Placing.{sender, reached, IsPlaced}
+use Rattle.graph.specs.Placing.{sender, reached, BlockPlaced}
 use Rattle.graph.proofs.Placing.{later-later, all-wait, port-more, all-ports}
 use Rattle.graph.proofs.order.Placing.pass_on.Goals as goal
 
@@ -22,7 +22,7 @@ loop-channel-preserved c =
           c.args.b c.loop-channel.channel-index c.requires.joined c.in_ok-advance.ensures.later wait
           (c.loop-channel.invariant.later.stay c.args.b c.requires.placed)
           (λ q h p. (c.in_ok-advance.ensures.waits q (subst (λ (n : ℕ). reached c.advance.new.self.progress.items n ≡ WaitsAt q) (sym there) h)).1
-          (subst (λ (n : ℕ). IsPlaced c.loop-channel.self.progress.items (sender c.args.g.now n q)) (sym there) p))
+          (subst (λ (n : ℕ). BlockPlaced c.loop-channel.self.progress.items (sender c.args.g.now n q)) (sym there) p))
           c.loop-channel.invariant.past;
     }
 
