@@ -2,13 +2,13 @@
 use Rattle.std.proofs.Common.{◌≡◌, zero, suc, List, [], ◌∷◌, Some, None, refl, sym, subst}
 use Rattle.stream_tokens.specs.Nest.{Leaf, leaf, Fiber}
 use Rattle.block_core.specs.Move.{Move}
-use Rattle.block_core.specs.Arithmetic.{Operation, combine}
+use Rattle.block_core.specs.Arithmetic.{Operation, combined_leaf}
 use Rattle.block_core.specs.Alu.{alu_leaves, alu_moves}
 use Rattle.block_core.specs.Ports.{Streams}
 use Rattle.block_core.specs.Kind.{AluKind, Fits, reading}
 use Rattle.block_core.specs.Runs.{Runs}
 use Rattle.block_core.specs.Stands.{Stands}
-use Rattle.block_core.proofs.Standing.{stands_start}
+use Rattle.block_core.proofs.Standing.{stands-start}
 use Rattle.alu_array.specs.AluSteps.{alu_steps, after_token}
 use Rattle.alu_array.specs.declared.unit.AluState.{AluState}
 use Rattle.alu_array.specs.declared.unit.AluState.TheVariants.{First}
@@ -24,10 +24,10 @@ module _ (op : Operation) where
 
   leaves_run : (ps : List (Leaf × Leaf)) (rest : List Move) → Runs (alu_steps op) First rest → Runs (alu_steps op) First (alu_leaves op ps rest)
   leaves_run [] rest h = h
-  leaves_run ((None, None) ∷ ps) rest h = (refl, (refl, (refl, next_leaf (combine op None None) _ (leaves_run ps rest h))))
-  leaves_run ((None, Some b) ∷ ps) rest h = (refl, (refl, (refl, next_leaf (combine op None (Some b)) _ (leaves_run ps rest h))))
-  leaves_run ((Some a, None) ∷ ps) rest h = (refl, (refl, (refl, next_leaf (combine op (Some a) None) _ (leaves_run ps rest h))))
-  leaves_run ((Some a, Some b) ∷ ps) rest h = (refl, (refl, (refl, next_leaf (combine op (Some a) (Some b)) _ (leaves_run ps rest h))))
+  leaves_run ((None, None) ∷ ps) rest h = (refl, (refl, (refl, next_leaf (combined_leaf op None None) _ (leaves_run ps rest h))))
+  leaves_run ((None, Some b) ∷ ps) rest h = (refl, (refl, (refl, next_leaf (combined_leaf op None (Some b)) _ (leaves_run ps rest h))))
+  leaves_run ((Some a, None) ∷ ps) rest h = (refl, (refl, (refl, next_leaf (combined_leaf op (Some a) None) _ (leaves_run ps rest h))))
+  leaves_run ((Some a, Some b) ∷ ps) rest h = (refl, (refl, (refl, next_leaf (combined_leaf op (Some a) (Some b)) _ (leaves_run ps rest h))))
 
   pub alu_run : (fs : List (Fiber (Leaf × Leaf))) → Runs (alu_steps op) First (alu_moves op fs)
   alu_run [] = (refl, (refl, (refl, refl)))
@@ -35,4 +35,4 @@ module _ (op : Operation) where
   alu_run ((ps, suc k) ∷ fs) = leaves_run ps _ (refl, (refl, (refl, alu_run fs)))
 
   pub alu_starts : (s : Streams) → Fits (AluKind op) s → Stands (Runs (alu_steps op) First) (AluKind op) s 0
-  alu_starts s f = stands_start (alu_steps op) First (AluKind op) s f (alu_run (reading (AluKind op) s))
+  alu_starts s f = stands-start (alu_steps op) First (AluKind op) s f (alu_run (reading (AluKind op) s))

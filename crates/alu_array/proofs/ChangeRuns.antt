@@ -3,12 +3,12 @@ use Rattle.std.proofs.Common.{ℕ, List, [], ◌∷◌, refl, sym, subst}
 use Rattle.stream_tokens.specs.declared.Token.{Token}
 use Rattle.stream_tokens.specs.declared.Token.TheVariants.{Item, Empty, Stop, Done}
 use Rattle.stream_tokens.proofs.Ending.{EndsWithin, IsStream-ends}
-use Rattle.block_core.specs.Change.{value_at, change_moves}
+use Rattle.block_core.specs.Change.{referenced_value, change_moves}
 use Rattle.block_core.specs.Ports.{Streams, AllStreams, port}
 use Rattle.block_core.specs.Kind.{ConstKind, ArrayKind, Fits}
 use Rattle.block_core.specs.Runs.{Runs}
 use Rattle.block_core.specs.Stands.{Stands}
-use Rattle.block_core.proofs.Standing.{stands_start}
+use Rattle.block_core.proofs.Standing.{stands-start}
 use Rattle.alu_array.specs.ChangeSteps.{change_steps}
 use Rattle.alu_array.specs.declared.change.ChangeState.TheVariants.{Wanting, Ended}
 
@@ -23,10 +23,10 @@ pub constant_starts : (value : ℕ) (s : Streams) → Fits (ConstKind value) s
     → Stands (Runs (change_steps (λ _. value)) Wanting) (ConstKind value) s 0
 constant_starts value s f =
     let whole : AllStreams (port 0 s ∷ []) = subst AllStreams (sym f.back) f.streams in
-    stands_start (change_steps (λ _. value)) Wanting (ConstKind value) s f (change_run (λ _. value) (port 0 s) (IsStream-ends (port 0 s) whole.0))
+    stands-start (change_steps (λ _. value)) Wanting (ConstKind value) s f (change_run (λ _. value) (port 0 s) (IsStream-ends (port 0 s) whole.0))
 
 pub array_starts : (values : List ℕ) (s : Streams) → Fits (ArrayKind values) s
-    → Stands (Runs (change_steps (value_at values)) Wanting) (ArrayKind values) s 0
+    → Stands (Runs (change_steps (referenced_value values)) Wanting) (ArrayKind values) s 0
 array_starts values s f =
     let whole : AllStreams (port 0 s ∷ []) = subst AllStreams (sym f.back) f.streams in
-    stands_start (change_steps (value_at values)) Wanting (ArrayKind values) s f (change_run (value_at values) (port 0 s) (IsStream-ends (port 0 s) whole.0))
+    stands-start (change_steps (referenced_value values)) Wanting (ArrayKind values) s f (change_run (referenced_value values) (port 0 s) (IsStream-ends (port 0 s) whole.0))

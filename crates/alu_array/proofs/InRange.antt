@@ -5,7 +5,7 @@ use denote.Struct.Props.{props}
 use Rattle.stream_tokens.specs.declared.Token.{Token}
 use Rattle.stream_tokens.specs.declared.Token.TheVariants.{Item, Empty, Stop, Done}
 use Rattle.block_core.specs.Move.{Taking}
-use Rattle.block_core.specs.Change.{ItemsBelow, value_at, change_moves}
+use Rattle.block_core.specs.Change.{ItemsBelow, referenced_value, change_moves}
 use Rattle.block_core.specs.Ports.{port}
 use Rattle.block_core.specs.Kind.{ArrayKind}
 use Rattle.block_core.specs.Stands.{Stands}
@@ -43,8 +43,8 @@ below_prop n Done = hlevel
 
 -- where an array may take a token, a reference is in range
 pub may_take_below : (values : List ℕ) (state : ChangeState) (p : ℕ) (t : Token)
-    → MayTake (Stands (Runs (change_steps (value_at values)) state) (ArrayKind values)) (ArrayKind values) p t
+    → MayTake (Stands (Runs (change_steps (referenced_value values)) state) (ArrayKind values)) (ArrayKind values) p t
     → ItemsBelow (length values) (t ∷ [])
 may_take_below values state p t may =
     ∥∥₁_elim may (below_prop (length values) t)
-    (λ at. taken_below (length values) (value_at values) (port 0 at.0) at.1 p t at.2.fits.well at.3)
+    (λ at. taken_below (length values) (referenced_value values) (port 0 at.0) at.1 p t at.2.fits.well at.3)

@@ -5,7 +5,7 @@ use Rattle.stream_tokens.specs.declared.Token.TheVariants.{Item, Empty, Stop, Do
 use Rattle.stream_tokens.specs.Nest.{Leaf, leaf}
 use Rattle.block_core.specs.declared.Wish.{Wish}
 use Rattle.block_core.specs.declared.Wish.TheVariants.{Take, Put, Finished}
-use Rattle.block_core.specs.Arithmetic.{Operation, combine}
+use Rattle.block_core.specs.Arithmetic.{Operation, combined_leaf}
 use Rattle.block_core.specs.Runs.{Steps}
 use Rattle.alu_array.specs.declared.unit.AluState.{AluState}
 use Rattle.alu_array.specs.declared.unit.AluState.TheVariants.{First, Second, Giving, Ended}
@@ -19,8 +19,8 @@ value_of Done = None
 
 -- the token of two: where one stops or ends, so does the other
 abbrev pub combined_token : Operation → Token → Token → Token
-combined_token op (Item x) b = leaf (combine op (Some x) (value_of b))
-combined_token op Empty b = leaf (combine op None (value_of b))
+combined_token op (Item x) b = leaf (combined_leaf op (Some x) (value_of b))
+combined_token op Empty b = leaf (combined_leaf op None (value_of b))
 combined_token op (Stop n) b = Stop n
 combined_token op Done b = Done
 

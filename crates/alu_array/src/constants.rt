@@ -7,7 +7,7 @@ ghost use Rattle.block_core.specs.Ports.{Streams};
 ghost use Rattle.block_core.specs.Kind.{ConstKind, Fits, moves};
 ghost use Rattle.block_core.specs.Stands.{Stands};
 ghost use Rattle.block_core.specs.Runs.{Runs};
-ghost use Rattle.block_core.proofs.Unique.{same_wish};
+ghost use Rattle.block_core.proofs.Unique.{same-wish};
 ghost use Rattle.alu_array.specs.ChangeSteps.{change_steps};
 
 use crate::change::ChangeState;
@@ -92,5 +92,5 @@ impl BlockStep for Constant {
 
     ghost stands_within = { λ b s n h. h.within };
 
-    ghost agrees = { λ b s r n h k a. same_wish _ _ n (moves (ConstKind b.value) s) (moves (ConstKind b.value) r) h.rest k.rest a };
+    ghost agrees = { λ b s r n h k a. same-wish _ _ n (moves (ConstKind b.value) s) (moves (ConstKind b.value) r) h.rest k.rest a };
 }

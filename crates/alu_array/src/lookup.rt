@@ -1,13 +1,13 @@
 //! The block that reads values by their references.
 
 ghost use Rattle.std.specs.Prelude.{◌≡◌, ℕ, ◌+◌, List, [], ◌∷◌, length, false, slice_get, Some, IsOk, IfOk, IfErr};
-ghost use Rattle.block_core.specs.Change.{on_item, value_at, ItemsBelow};
+ghost use Rattle.block_core.specs.Change.{on_item, referenced_value, ItemsBelow};
 ghost use Rattle.block_core.specs.Move.{Taking, Putting};
 ghost use Rattle.block_core.specs.Ports.{Streams};
 ghost use Rattle.block_core.specs.Kind.{ArrayKind, Fits, moves};
 ghost use Rattle.block_core.specs.Stands.{Stands};
 ghost use Rattle.block_core.specs.Runs.{Runs};
-ghost use Rattle.block_core.proofs.Unique.{same_wish};
+ghost use Rattle.block_core.proofs.Unique.{same-wish};
 ghost use Rattle.alu_array.specs.ChangeSteps.{change_steps};
 
 use crate::change::ChangeState;
@@ -40,7 +40,7 @@ impl<'a> Array<'a> {
     #[inline]
     fn changed(&self, t: Token) -> Token
         requires { ItemsBelow (length self.now.storage.now.values) (t ∷ []) }
-        ensures { result ≡ on_item (value_at self.now.storage.now.values) t }
+        ensures { result ≡ on_item (referenced_value self.now.storage.now.values) t }
     {
         match t {
             Token::Item(r) => Token::Item(self.storage.value(r)),
@@ -54,7 +54,7 @@ impl<'a> BlockStep for Array<'a> {
 
     ghost may_refuse = { λ _. false };
 
-    ghost stands = { λ b. Stands (Runs (change_steps (value_at b.storage.now.values)) b.state) (ArrayKind b.storage.now.values) };
+    ghost stands = { λ b. Stands (Runs (change_steps (referenced_value b.storage.now.values)) b.state) (ArrayKind b.storage.now.values) };
 
     fn ins(&self) -> u32 {
         1
@@ -96,5 +96,5 @@ impl<'a> BlockStep for Array<'a> {
 
     ghost stands_within = { λ b s n h. h.within };
 
-    ghost agrees = { λ b s r n h k a. same_wish _ _ n (moves (ArrayKind b.storage.now.values) s) (moves (ArrayKind b.storage.now.values) r) h.rest k.rest a };
+    ghost agrees = { λ b s r n h k a. same-wish _ _ n (moves (ArrayKind b.storage.now.values) s) (moves (ArrayKind b.storage.now.values) r) h.rest k.rest a };
 }

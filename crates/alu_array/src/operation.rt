@@ -1,7 +1,7 @@
 //! Arithmetic on values modulo 2^64, where a value may be absent.
 
 ghost use Rattle.std.specs.Prelude.{◌≡◌};
-ghost use Rattle.block_core.specs.Arithmetic.{combine as combined_value};
+ghost use Rattle.block_core.specs.Arithmetic.{combined_leaf};
 ghost use Rattle.alu_array.specs.Operations.{operation_of};
 
 /// What an arithmetic unit does with two values.
@@ -16,7 +16,7 @@ pub enum Op {
 /// value, and so is a difference, where the second value alone is taken from 0.
 #[inline]
 pub fn combine(op: Op, a: Option<u64>, b: Option<u64>) -> Option<u64>
-    ensures { result ≡ combined_value (operation_of op) a b }
+    ensures { result ≡ combined_leaf (operation_of op) a b }
 {
     match (op, a, b) {
         (Op::Mul, Some(a), Some(b)) => Some(a.wrapping_mul(b)),

@@ -6,7 +6,7 @@ ghost use Rattle.block_core.specs.Ports.{Streams};
 ghost use Rattle.block_core.specs.Kind.{RootKind, Fits, moves};
 ghost use Rattle.block_core.specs.Stands.{Stands};
 ghost use Rattle.block_core.specs.Runs.{Runs};
-ghost use Rattle.block_core.proofs.Unique.{same_wish};
+ghost use Rattle.block_core.proofs.Unique.{same-wish};
 ghost use Rattle.alu_array.specs.RootSteps.{root_steps};
 
 use block_core::{BlockStep, Wish};
@@ -111,5 +111,5 @@ impl BlockStep for Root {
 
     ghost stands_within = { λ b s n h. h.within };
 
-    ghost agrees = { λ b s r n h k a. same_wish root_steps b.state n (moves RootKind s) (moves RootKind r) h.rest k.rest a };
+    ghost agrees = { λ b s r n h k a. same-wish root_steps b.state n (moves RootKind s) (moves RootKind r) h.rest k.rest a };
 }

@@ -6,7 +6,7 @@ ghost use Rattle.block_core.specs.Ports.{Streams};
 ghost use Rattle.block_core.specs.Kind.{AluKind, Fits, moves};
 ghost use Rattle.block_core.specs.Stands.{Stands};
 ghost use Rattle.block_core.specs.Runs.{Runs};
-ghost use Rattle.block_core.proofs.Unique.{same_wish};
+ghost use Rattle.block_core.proofs.Unique.{same-wish};
 ghost use Rattle.alu_array.specs.Operations.{operation_of};
 ghost use Rattle.alu_array.specs.AluSteps.{alu_steps, alu_wants, alu_took, alu_put, value_of, combined_token};
 
@@ -155,5 +155,5 @@ impl BlockStep for Alu {
 
     ghost stands_within = { λ b s n h. h.within };
 
-    ghost agrees = { λ b s r n h k a. same_wish _ _ n (moves (AluKind (operation_of b.op)) s) (moves (AluKind (operation_of b.op)) r) h.rest k.rest a };
+    ghost agrees = { λ b s r n h k a. same-wish _ _ n (moves (AluKind (operation_of b.op)) s) (moves (AluKind (operation_of b.op)) r) h.rest k.rest a };
 }

@@ -2,7 +2,7 @@
 
 ghost use Rattle.std.specs.Prelude.{ℕ};
 ghost use Rattle.block_core.specs.Ports.{Streams};
-ghost use Rattle.block_core.proofs.Unique.{same_wish};
+ghost use Rattle.block_core.proofs.Unique.{same-wish};
 ghost use Rattle.alu_array.specs.AluSteps.{alu_steps};
 ghost use Rattle.alu_array.specs.ChangeSteps.{change_steps};
 ghost use Rattle.alu_array.specs.RootSteps.{root_steps};
@@ -280,23 +280,23 @@ impl<'a> BlockStep for AnyBlock<'a> {
     ] };
 
     ghost agrees = { elim [
-      | Root b ↦ λ s r n h k a. same_wish root_steps _ n _ _ h.rest k.rest a
-      | Scan b ↦ λ s r n h k a. same_wish (scan_steps _) _ n _ _ h.rest k.rest a
-      | Repeat b ↦ λ s r n h k a. same_wish repeat_steps _ n _ _ h.rest k.rest a
-      | Cast b ↦ λ s r n h k a. same_wish (cast_steps _) _ n _ _ h.rest k.rest a
-      | Drain b ↦ λ s r n h k a. same_wish drain_steps _ n _ _ h.rest k.rest a
-      | Intersect b ↦ λ s r n h k a. same_wish merge_steps _ n _ _ h.rest k.rest a
-      | Union b ↦ λ s r n h k a. same_wish merge_steps _ n _ _ h.rest k.rest a
-      | Array b ↦ λ s r n h k a. same_wish (change_steps _) _ n _ _ h.rest k.rest a
-      | Alu b ↦ λ s r n h k a. same_wish (alu_steps _) _ n _ _ h.rest k.rest a
-      | Const b ↦ λ s r n h k a. same_wish (change_steps _) _ n _ _ h.rest k.rest a
-      | SumScalar b ↦ λ s r n h k a. same_wish sum_steps _ n _ _ h.rest k.rest a
-      | SumVector b ↦ λ s r n h k a. same_wish vector_steps _ n _ _ h.rest k.rest a
-      | SumMatrix b ↦ λ s r n h k a. same_wish matrix_steps _ n _ _ h.rest k.rest a
-      | DropValue b ↦ λ s r n h k a. same_wish drop_value_steps _ n _ _ h.rest k.rest a
-      | DropFiber b ↦ λ s r n h k a. same_wish drop_fiber_steps _ n _ _ h.rest k.rest a
-      | Fill b ↦ λ s r n h k a. same_wish fill_steps _ n _ _ h.rest k.rest a
-      | WriteLevel b ↦ λ s r n h k a. same_wish writer_steps _ n _ _ h.rest.runs k.rest.runs a
-      | WriteValue b ↦ λ s r n h k a. same_wish writer_steps _ n _ _ h.rest.runs k.rest.runs a
+      | Root b ↦ λ s r n h k a. same-wish root_steps _ n _ _ h.rest k.rest a
+      | Scan b ↦ λ s r n h k a. same-wish (scan_steps _) _ n _ _ h.rest k.rest a
+      | Repeat b ↦ λ s r n h k a. same-wish repeat_steps _ n _ _ h.rest k.rest a
+      | Cast b ↦ λ s r n h k a. same-wish (cast_steps _) _ n _ _ h.rest k.rest a
+      | Drain b ↦ λ s r n h k a. same-wish drain_steps _ n _ _ h.rest k.rest a
+      | Intersect b ↦ λ s r n h k a. same-wish merge_steps _ n _ _ h.rest k.rest a
+      | Union b ↦ λ s r n h k a. same-wish merge_steps _ n _ _ h.rest k.rest a
+      | Array b ↦ λ s r n h k a. same-wish (change_steps _) _ n _ _ h.rest k.rest a
+      | Alu b ↦ λ s r n h k a. same-wish (alu_steps _) _ n _ _ h.rest k.rest a
+      | Const b ↦ λ s r n h k a. same-wish (change_steps _) _ n _ _ h.rest k.rest a
+      | SumScalar b ↦ λ s r n h k a. same-wish sum_steps _ n _ _ h.rest k.rest a
+      | SumVector b ↦ λ s r n h k a. same-wish vector_steps _ n _ _ h.rest k.rest a
+      | SumMatrix b ↦ λ s r n h k a. same-wish matrix_steps _ n _ _ h.rest k.rest a
+      | DropValue b ↦ λ s r n h k a. same-wish drop_value_steps _ n _ _ h.rest k.rest a
+      | DropFiber b ↦ λ s r n h k a. same-wish drop_fiber_steps _ n _ _ h.rest k.rest a
+      | Fill b ↦ λ s r n h k a. same-wish fill_steps _ n _ _ h.rest k.rest a
+      | WriteLevel b ↦ λ s r n h k a. same-wish writer_steps _ n _ _ h.rest.runs k.rest.runs a
+      | WriteValue b ↦ λ s r n h k a. same-wish writer_steps _ n _ _ h.rest.runs k.rest.runs a
     ] };
 }

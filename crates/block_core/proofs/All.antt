@@ -2,7 +2,7 @@
 use Rattle.std.proofs.Common.{subst}
 use Rattle.block_core.specs.Ports.{Streams}
 use Rattle.block_core.specs.Kind.{Kind, RootKind, ScanKind, RepeatKind, CastKind, DrainKind, IntersectKind, UnionKind, ArrayKind, AluKind, ConstKind, SumScalarKind, SumVectorKind, SumMatrixKind, DropValueKind, DropFiberKind, FillKind, WriteLevelKind, WriteValueKind, Reading, reading, given, made, played, Well, Fits, outputs, moves}
-use Rattle.block_core.specs.Change.{value_at}
+use Rattle.block_core.specs.Change.{referenced_value}
 use Rattle.block_core.specs.Flows.{Flows, Passes}
 use Rattle.block_core.proofs.Passing.{flows-pass}
 use Rattle.block_core.proofs.PlainFlows.{root-flows, cast-flows, drain-flows, change-flows, alu-flows, dropvalue-flows}
@@ -21,7 +21,7 @@ all-flows (CastKind outs) j w = cast-flows outs j
 all-flows DrainKind j w = drain-flows j
 all-flows (IntersectKind l r) j w = merge-flows false l r j w
 all-flows (UnionKind l r) j w = merge-flows true l r j w
-all-flows (ArrayKind values) j w = change-flows (value_at values) j
+all-flows (ArrayKind values) j w = change-flows (referenced_value values) j
 all-flows (AluKind op) j w = alu-flows op j
 all-flows (ConstKind c) j w = change-flows (λ _. c) j
 all-flows SumScalarKind j w = sumscalar-flows j w

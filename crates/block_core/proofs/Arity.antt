@@ -2,22 +2,19 @@
 use Rattle.std.specs.Prelude.{◌≡◌, ◌<◌, ℕ, zero, suc, ◌+◌, Bool, true, false, List, [], ◌∷◌, ◌++◌, length, slice_get, Some, eqb, cond, get_or, refl}
 use mathlib.Core.List.{map}
 use Rattle.std.proofs.Common.{arith, sym, ◌∙◌, ap, length-append}
-use Rattle.std.proofs.lemmas.Bool.Decides.{nat_tests}
 use Rattle.stream_tokens.specs.declared.Token.{Token}
 use Rattle.block_core.specs.Move.{Move, Taking, Putting, takes, puts, over}
 use Rattle.block_core.specs.Ports.{Streams, port}
 use Rattle.block_core.specs.Merge.{Sides, left_of, right_of, merged_of, side_streams, merge_inputs, merge_outputs}
 use Rattle.block_core.specs.Kind.{Kind, RootKind, ScanKind, RepeatKind, CastKind, DrainKind, IntersectKind, UnionKind, ArrayKind, AluKind, ConstKind, SumScalarKind, SumVectorKind, SumMatrixKind, DropValueKind, DropFiberKind, FillKind, WriteLevelKind, WriteValueKind, ins_of, outs_of, Reading, reading, given, made, Fits, outputs, moves}
+use Rattle.block_core.proofs.Rows.{length-over}
+use Rattle.block_core.proofs.Passing.{eqb-self}
 use Rattle.block_core.proofs.All.{all-pass}
 
-length_over : {A : Type 0} (f : ℕ → A) (p n : ℕ) → length (over f p n) ≡ n
-length_over f p zero = refl
-length_over f p (suc n) = ap suc (length_over f (suc p) n)
-
-two_sides : (l r : ℕ) (j : List Sides) → length (merge_inputs l r j) ≡ l + r + 2
-two_sides l r j =
-    let a : length (side_streams l (map left_of j)) ≡ suc l = length_over _ 0 (suc l) in
-    let b : length (side_streams r (map right_of j)) ≡ suc r = length_over _ 0 (suc r) in
+two-sides : (l r : ℕ) (j : List Sides) → length (merge_inputs l r j) ≡ l + r + 2
+two-sides l r j =
+    let a : length (side_streams l (map left_of j)) ≡ suc l = length-over _ 0 (suc l) in
+    let b : length (side_streams r (map right_of j)) ≡ suc r = length-over _ 0 (suc r) in
     let c = length-append (side_streams l (map left_of j)) (side_streams r (map right_of j)) in
     omega (arith, a, b, c)
 
@@ -27,8 +24,8 @@ given-length (ScanKind children) j = refl
 given-length RepeatKind j = refl
 given-length (CastKind outs) j = refl
 given-length DrainKind j = refl
-given-length (IntersectKind l r) j = two_sides l r j
-given-length (UnionKind l r) j = two_sides l r j
+given-length (IntersectKind l r) j = two-sides l r j
+given-length (UnionKind l r) j = two-sides l r j
 given-length (ArrayKind values) j = refl
 given-length (AluKind op) j = refl
 given-length (ConstKind c) j = refl
@@ -37,7 +34,7 @@ given-length SumVectorKind j = refl
 given-length SumMatrixKind j = refl
 given-length DropValueKind j = refl
 given-length DropFiberKind j = refl
-given-length (FillKind w) j = let a : length (given (FillKind w) j) ≡ suc (suc w) = ap suc (length_over _ 0 (suc w)) in omega (arith, a)
+given-length (FillKind w) j = let a : length (given (FillKind w) j) ≡ suc (suc w) = ap suc (length-over _ 0 (suc w)) in omega (arith, a)
 given-length (WriteLevelKind level) j = refl
 given-length WriteValueKind j = refl
 
@@ -45,10 +42,10 @@ pub made-length : (kind : Kind) (j : Reading kind) → length (made kind j) ≡ 
 made-length RootKind j = refl
 made-length (ScanKind children) j = refl
 made-length RepeatKind j = refl
-made-length (CastKind outs) j = length_over _ 0 outs
+made-length (CastKind outs) j = length-over _ 0 outs
 made-length DrainKind j = refl
-made-length (IntersectKind l r) j = let a : length (made (IntersectKind l r) j) ≡ suc (l + r) = length_over _ 0 (suc (l + r)) in omega (arith, a)
-made-length (UnionKind l r) j = let a : length (made (UnionKind l r) j) ≡ suc (l + r) = length_over _ 0 (suc (l + r)) in omega (arith, a)
+made-length (IntersectKind l r) j = let a : length (made (IntersectKind l r) j) ≡ suc (l + r) = length-over _ 0 (suc (l + r)) in omega (arith, a)
+made-length (UnionKind l r) j = let a : length (made (UnionKind l r) j) ≡ suc (l + r) = length-over _ 0 (suc (l + r)) in omega (arith, a)
 made-length (ArrayKind values) j = refl
 made-length (AluKind op) j = refl
 made-length (ConstKind c) j = refl
@@ -57,7 +54,7 @@ made-length SumVectorKind j = refl
 made-length SumMatrixKind j = refl
 made-length DropValueKind j = refl
 made-length DropFiberKind j = refl
-made-length (FillKind w) j = let a : length (made (FillKind w) j) ≡ suc w = length_over _ 0 (suc w) in omega (arith, a)
+made-length (FillKind w) j = let a : length (made (FillKind w) j) ≡ suc w = length-over _ 0 (suc w) in omega (arith, a)
 made-length (WriteLevelKind level) j = refl
 made-length WriteValueKind j = refl
 
@@ -69,51 +66,48 @@ outputs-length kind ins = made-length kind (reading kind ins)
 
 -- ---- the ports of moves
 
-eqb_self : (a : ℕ) → eqb a a ≡ true
-eqb_self a = grind (arith, nat_tests)
-
 -- a port with a token is one of the streams
-has_port : (p : ℕ) (ss : Streams) (t : Token) (ts : List Token) → port p ss ≡ t ∷ ts → p < length ss
-has_port p [] t ts e = absurd (cc)
-has_port zero (s ∷ ss) t ts e = omega arith
-has_port (suc p) (s ∷ ss) t ts e = omega (arith, has_port p ss t ts e)
+has-port : (p : ℕ) (ss : Streams) (t : Token) (ts : List Token) → port p ss ≡ t ∷ ts → p < length ss
+has-port p [] t ts e = absurd (cc)
+has-port zero (s ∷ ss) t ts e = omega arith
+has-port (suc p) (s ∷ ss) t ts e = omega (arith, has-port p ss t ts e)
 
-some_more : (b : Bool) (u : Token) (xs : List Token) → 0 < length xs → 0 < length (cond b (u ∷ xs) xs)
-some_more true u xs h = omega arith
-some_more false u xs h = h
+some-more : (b : Bool) (u : Token) (xs : List Token) → 0 < length xs → 0 < length (cond b (u ∷ xs) xs)
+some-more true u xs h = omega arith
+some-more false u xs h = h
 
-taken_there : (ms : List Move) (n p : ℕ) (t : Token) → slice_get ms n ≡ Some (Taking p t) → 0 < length (takes p ms)
-taken_there [] n p t e = absurd (cc)
-taken_there (Taking q u ∷ ms) zero p t e =
+taken-there : (ms : List Move) (n p : ℕ) (t : Token) → slice_get ms n ≡ Some (Taking p t) → 0 < length (takes p ms)
+taken-there [] n p t e = absurd (cc)
+taken-there (Taking q u ∷ ms) zero p t e =
     let same : q ≡ p = cc in
     let one : length (takes p (Taking q u ∷ ms)) ≡ suc (length (takes p ms)) =
-    ap (λ b. length (cond b (u ∷ takes p ms) (takes p ms))) (ap (λ (x : ℕ). eqb x p) same ∙ eqb_self p) in
+    ap (λ b. length (cond b (u ∷ takes p ms) (takes p ms))) (ap (λ (x : ℕ). eqb x p) same ∙ eqb-self p) in
     omega (arith, one)
-taken_there (Putting q u ∷ ms) zero p t e = absurd (cc)
-taken_there (Taking q u ∷ ms) (suc n) p t e = some_more (eqb q p) u (takes p ms) (taken_there ms n p t e)
-taken_there (Putting q u ∷ ms) (suc n) p t e = taken_there ms n p t e
+taken-there (Putting q u ∷ ms) zero p t e = absurd (cc)
+taken-there (Taking q u ∷ ms) (suc n) p t e = some-more (eqb q p) u (takes p ms) (taken-there ms n p t e)
+taken-there (Putting q u ∷ ms) (suc n) p t e = taken-there ms n p t e
 
-put_there : (ms : List Move) (n p : ℕ) (t : Token) → slice_get ms n ≡ Some (Putting p t) → 0 < length (puts p ms)
-put_there [] n p t e = absurd (cc)
-put_there (Putting q u ∷ ms) zero p t e =
+put-there : (ms : List Move) (n p : ℕ) (t : Token) → slice_get ms n ≡ Some (Putting p t) → 0 < length (puts p ms)
+put-there [] n p t e = absurd (cc)
+put-there (Putting q u ∷ ms) zero p t e =
     let same : q ≡ p = cc in
     let one : length (puts p (Putting q u ∷ ms)) ≡ suc (length (puts p ms)) =
-    ap (λ b. length (cond b (u ∷ puts p ms) (puts p ms))) (ap (λ (x : ℕ). eqb x p) same ∙ eqb_self p) in
+    ap (λ b. length (cond b (u ∷ puts p ms) (puts p ms))) (ap (λ (x : ℕ). eqb x p) same ∙ eqb-self p) in
     omega (arith, one)
-put_there (Taking q u ∷ ms) zero p t e = absurd (cc)
-put_there (Putting q u ∷ ms) (suc n) p t e = some_more (eqb q p) u (puts p ms) (put_there ms n p t e)
-put_there (Taking q u ∷ ms) (suc n) p t e = put_there ms n p t e
+put-there (Taking q u ∷ ms) zero p t e = absurd (cc)
+put-there (Putting q u ∷ ms) (suc n) p t e = some-more (eqb q p) u (puts p ms) (put-there ms n p t e)
+put-there (Taking q u ∷ ms) (suc n) p t e = put-there ms n p t e
 
-a_port : (p : ℕ) (ss : Streams) (xs : List Token) → xs ≡ port p ss → 0 < length xs → p < length ss
-a_port p ss [] e h = absurd (omega (arith, h))
-a_port p ss (t ∷ ts) e h = has_port p ss t ts (sym e)
+a-port : (p : ℕ) (ss : Streams) (xs : List Token) → xs ≡ port p ss → 0 < length xs → p < length ss
+a-port p ss [] e h = absurd (omega (arith, h))
+a-port p ss (t ∷ ts) e h = has-port p ss t ts (sym e)
 
 pub take-in-range : (kind : Kind) (ins : Streams) (n p : ℕ) (t : Token) → Fits kind ins → slice_get (moves kind ins) n ≡ Some (Taking p t) → p < ins_of kind
 take-in-range kind ins n p t f e =
-    let b : p < length ins = a_port p ins (takes p (moves kind ins)) ((all-pass kind ins f).through.taken p) (taken_there (moves kind ins) n p t e) in
+    let b : p < length ins = a-port p ins (takes p (moves kind ins)) ((all-pass kind ins f).through.taken p) (taken-there (moves kind ins) n p t e) in
     omega (arith, b, fits-length kind ins f)
 
 pub put-in-range : (kind : Kind) (ins : Streams) (n p : ℕ) (t : Token) → Fits kind ins → slice_get (moves kind ins) n ≡ Some (Putting p t) → p < outs_of kind
 put-in-range kind ins n p t f e =
-    let b : p < length (outputs kind ins) = a_port p (outputs kind ins) (puts p (moves kind ins)) ((all-pass kind ins f).through.put p) (put_there (moves kind ins) n p t e) in
+    let b : p < length (outputs kind ins) = a-port p (outputs kind ins) (puts p (moves kind ins)) ((all-pass kind ins f).through.put p) (put-there (moves kind ins) n p t e) in
     omega (arith, b, outputs-length kind ins)

@@ -4,9 +4,10 @@ use mathlib.Core.List.{map}
 use Rattle.std.proofs.Common.{arith, sym, ◌∙◌, ap}
 use Rattle.stream_tokens.specs.Nest.{Leaf}
 use Rattle.stream_tokens.specs.Shapes.{Each}
+use Rattle.stream_tokens.proofs.Algebra.{Each-imp, map-ext}
 use Rattle.block_core.specs.Gather.{add_at, gather}
 use Rattle.block_core.specs.Merge.{Head, Above, Ascends, look, head_of, or_none, either, unite}
-use Rattle.block_core.proofs.InOrder.{right_list, along_list, fiber_list, less, at_least, lt_true, lt_false, differ_above, alike, below, not_below, ascends_after, above_less, look_above, look_past, look_first}
+use Rattle.block_core.proofs.InOrder.{right_list, along_list, fiber_list, less, at-least, lt-true, lt-false, differ-above, alike, below, not-below, ascends-after, above-less, look-above, look-past, look-first}
 
 -- the coordinates of both sides, from their fronts
 abbrev along_coordinates : ℕ → (List Head → List ℕ) → List Head → List ℕ
@@ -20,26 +21,18 @@ coordinates (h ∷ hs) ks = along_coordinates h.0 (coordinates hs) ks
 
 -- ---- what holds of each coordinate
 
-each_imp : {A : Type 0} (P Q : A → Type 0) → ((x : A) → P x → Q x) → (xs : List A) → Each P xs → Each Q xs
-each_imp P Q f [] e = tt
-each_imp P Q f (x ∷ xs) e = (f x e.0, each_imp P Q f xs e.1)
+above-each : (c : ℕ) (hs : List Head) → Above c hs → Each (λ h. c < h.0) hs
+above-each c [] a = tt
+above-each c (h ∷ hs) a = (a.0, above-each c hs (above-less c h.0 hs (omega (arith, a.0)) a.1))
 
-map_ext : {A B : Type 0} (f g : A → B) (xs : List A) → Each (λ x. f x ≡ g x) xs → map f xs ≡ map g xs
-map_ext f g [] e = refl
-map_ext f g (x ∷ xs) e = rw (e.0, map_ext f g xs e.1) refl
+each-first : (Q : ℕ → Type 0) (ks : List Head) → Each (λ k. Q k.0) ks → Each Q (map (λ k. k.0) ks)
+each-first Q [] e = tt
+each-first Q (k ∷ ks) e = (e.0, each-first Q ks e.1)
 
-above_each : (c : ℕ) (hs : List Head) → Above c hs → Each (λ h. c < h.0) hs
-above_each c [] a = tt
-above_each c (h ∷ hs) a = (a.0, above_each c hs (above_less c h.0 hs (omega (arith, a.0)) a.1))
-
-each_first : (Q : ℕ → Type 0) (ks : List Head) → Each (λ k. Q k.0) ks → Each Q (map (λ k. k.0) ks)
-each_first Q [] e = tt
-each_first Q (k ∷ ks) e = (e.0, each_first Q ks e.1)
-
-each_along : (Q : ℕ → Type 0) (c : ℕ) (go : List Head → List ℕ) → Q c → ((ks : List Head) → Each (λ k. Q k.0) ks → Each Q (go ks))
+each-along : (Q : ℕ → Type 0) (c : ℕ) (go : List Head → List ℕ) → Q c → ((ks : List Head) → Each (λ k. Q k.0) ks → Each Q (go ks))
     → (ks : List Head) → Each (λ k. Q k.0) ks → Each Q (along_coordinates c go ks)
-each_along Q c go q f [] e = (q, f [] tt)
-each_along Q c go q f (k ∷ ks) e = by_case (each_along Q c go q f ks e.1) (nat_lt c k.0) (nat_lt k.0 c)
+each-along Q c go q f [] e = (q, f [] tt)
+each-along Q c go q f (k ∷ ks) e = by_case (each-along Q c go q f ks e.1) (nat_lt c k.0) (nat_lt k.0 c)
   where
     by_case : Each Q (along_coordinates c go ks) → (p q : Bool)
         → Each Q (if p then c ∷ go (k ∷ ks) else if q then k.0 ∷ along_coordinates c go ks else c ∷ go ks)
@@ -47,9 +40,9 @@ each_along Q c go q f (k ∷ ks) e = by_case (each_along Q c go q f ks e.1) (nat
     by_case h false true = (e.0, h)
     by_case h false false = (q, f ks e.1)
 
-each_coordinate : (Q : ℕ → Type 0) (hs ks : List Head) → Each (λ h. Q h.0) hs → Each (λ k. Q k.0) ks → Each Q (coordinates hs ks)
-each_coordinate Q [] ks d e = each_first Q ks e
-each_coordinate Q (h ∷ hs) ks d e = each_along Q h.0 (coordinates hs) d.0 (λ ys c. each_coordinate Q hs ys d.1 c) ks e
+each-coordinate : (Q : ℕ → Type 0) (hs ks : List Head) → Each (λ h. Q h.0) hs → Each (λ k. Q k.0) ks → Each Q (coordinates hs ks)
+each-coordinate Q [] ks d e = each-first Q ks e
+each-coordinate Q (h ∷ hs) ks d e = each-along Q h.0 (coordinates hs) d.0 (λ ys c. each-coordinate Q hs ys d.1 c) ks e
 
 -- ---- the coordinates of either
 
@@ -68,20 +61,20 @@ inserted c v (p ∷ ps) = by_case (inserted c v ps) (ltb c p.0) (eqb c p.0)
     by_case e false true = refl
     by_case e false false = ap (λ (xs : List ℕ). p.0 ∷ xs) e
 
-insert_first : (c : ℕ) (xs : List ℕ) → Each (λ x. c < x) xs → insert c xs ≡ c ∷ xs
-insert_first c [] e = refl
-insert_first c (x ∷ xs) e = rw (below c x e.0) refl
+insert-first : (c : ℕ) (xs : List ℕ) → Each (λ x. c < x) xs → insert c xs ≡ c ∷ xs
+insert-first c [] e = refl
+insert-first c (x ∷ xs) e = rw (below c x e.0) refl
 
 -- a coordinate of the right that is passed by all of the left
-coordinates_past : (hs : List Head) (k : Head) (ks : List Head) → Above k.0 hs → coordinates hs (k ∷ ks) ≡ k.0 ∷ coordinates hs ks
-coordinates_past [] k ks a = refl
-coordinates_past (h ∷ hs) k ks a = rw (lt_false h.0 k.0 (omega (arith, a.0)), lt_true k.0 h.0 a.0) refl
+coordinates-past : (hs : List Head) (k : Head) (ks : List Head) → Above k.0 hs → coordinates hs (k ∷ ks) ≡ k.0 ∷ coordinates hs ks
+coordinates-past [] k ks a = refl
+coordinates-past (h ∷ hs) k ks a = rw (lt-false h.0 k.0 (omega (arith, a.0)), lt-true k.0 h.0 a.0) refl
 
-insert_along : (h : Head) (hs : List Head) → Above h.0 hs → (ks : List Head) → Ascends ks
+insert-along : (h : Head) (hs : List Head) → Above h.0 hs → (ks : List Head) → Ascends ks
     → insert h.0 (coordinates hs ks) ≡ along_coordinates h.0 (coordinates hs) ks
-insert_along h hs a [] b = insert_first h.0 (coordinates hs []) (each_coordinate (λ x. h.0 < x) hs [] (above_each h.0 hs a) tt)
-insert_along h hs a (k ∷ ks) b =
-    by_case (insert_along h hs a ks (ascends_after k.0 ks b)) (nat_lt h.0 k.0) (nat_lt k.0 h.0) refl refl
+insert-along h hs a [] b = insert-first h.0 (coordinates hs []) (each-coordinate (λ x. h.0 < x) hs [] (above-each h.0 hs a) tt)
+insert-along h hs a (k ∷ ks) b =
+    by_case (insert-along h hs a ks (ascends-after k.0 ks b)) (nat_lt h.0 k.0) (nat_lt k.0 h.0) refl refl
   where
     by_case : insert h.0 (coordinates hs ks) ≡ along_coordinates h.0 (coordinates hs) ks
         → (p q : Bool) → nat_lt h.0 k.0 ≡ p → nat_lt k.0 h.0 ≡ q
@@ -90,28 +83,28 @@ insert_along h hs a (k ∷ ks) b =
         else if q then k.0 ∷ along_coordinates h.0 (coordinates hs) ks
         else h.0 ∷ coordinates hs ks)
     by_case e true q s t =
-        insert_first h.0 (coordinates hs (k ∷ ks))
-        (each_coordinate (λ x. h.0 < x) hs (k ∷ ks) (above_each h.0 hs a) (above_each h.0 (k ∷ ks) (less h.0 k.0 s, b)))
+        insert-first h.0 (coordinates hs (k ∷ ks))
+        (each-coordinate (λ x. h.0 < x) hs (k ∷ ks) (above-each h.0 hs a) (above-each h.0 (k ∷ ks) (less h.0 k.0 s, b)))
     by_case e false true s t =
         let l : k.0 < h.0 = less k.0 h.0 t in
-        ap (insert h.0) (coordinates_past hs k ks (above_less k.0 h.0 hs (omega (arith, l)) a))
-        ∙ rw (not_below h.0 k.0 (omega (arith, l)), differ_above h.0 k.0 l) (ap (λ (xs : List ℕ). k.0 ∷ xs) e)
+        ap (insert h.0) (coordinates-past hs k ks (above-less k.0 h.0 hs (omega (arith, l)) a))
+        ∙ rw (not-below h.0 k.0 (omega (arith, l)), differ-above h.0 k.0 l) (ap (λ (xs : List ℕ). k.0 ∷ xs) e)
     by_case e false false s t =
-        let same : h.0 ≡ k.0 = omega (arith, at_least h.0 k.0 s, at_least k.0 h.0 t) in
-        ap (insert h.0) (coordinates_past hs k ks (above_less k.0 h.0 hs (omega (arith, same)) a))
-        ∙ rw (not_below h.0 k.0 (omega (arith, same)), alike h.0 k.0 same) refl
+        let same : h.0 ≡ k.0 = omega (arith, at-least h.0 k.0 s, at-least k.0 h.0 t) in
+        ap (insert h.0) (coordinates-past hs k ks (above-less k.0 h.0 hs (omega (arith, same)) a))
+        ∙ rw (not-below h.0 k.0 (omega (arith, same)), alike h.0 k.0 same) refl
 
-gathered_self : (ks : List Head) → Ascends ks → map (λ h. h.0) (gather (λ a b. a) ks) ≡ map (λ h. h.0) ks
-gathered_self [] b = refl
-gathered_self (k ∷ ks) b =
-    inserted k.0 k.1 (gather (λ a b. a) ks) ∙ ap (insert k.0) (gathered_self ks (ascends_after k.0 ks b))
-    ∙ insert_first k.0 (map (λ h. h.0) ks) (each_first (λ x. k.0 < x) ks (above_each k.0 ks b))
+gathered-self : (ks : List Head) → Ascends ks → map (λ h. h.0) (gather (λ a b. a) ks) ≡ map (λ h. h.0) ks
+gathered-self [] b = refl
+gathered-self (k ∷ ks) b =
+    inserted k.0 k.1 (gather (λ a b. a) ks) ∙ ap (insert k.0) (gathered-self ks (ascends-after k.0 ks b))
+    ∙ insert-first k.0 (map (λ h. h.0) ks) (each-first (λ x. k.0 < x) ks (above-each k.0 ks b))
 
-either_is : (hs : List Head) → Ascends hs → (ks : List Head) → Ascends ks → either hs ks ≡ coordinates hs ks
-either_is [] a ks b = gathered_self ks b
-either_is (h ∷ hs) a ks b =
-    inserted h.0 h.1 (gather (λ a b. a) (hs ++ ks)) ∙ ap (insert h.0) (either_is hs (ascends_after h.0 hs a) ks b)
-    ∙ insert_along h hs a ks b
+either-is : (hs : List Head) → Ascends hs → (ks : List Head) → Ascends ks → either hs ks ≡ coordinates hs ks
+either-is [] a ks b = gathered-self ks b
+either-is (h ∷ hs) a ks b =
+    inserted h.0 h.1 (gather (λ a b. a) (hs ++ ks)) ∙ ap (insert h.0) (either-is hs (ascends-after h.0 hs a) ks b)
+    ∙ insert-along h hs a ks b
 
 -- ---- their payloads
 
@@ -119,41 +112,41 @@ abbrev found : ℕ → ℕ → List Head → List Head → ℕ → Head
 found l r hs ks c = head_of l r c (or_none (look c hs)) (or_none (look c ks))
 
 -- the head at a coordinate, by what is found on each side
-found_is : (l r c : ℕ) (hs ks : List Head) (x y : Option (List Leaf)) → look c hs ≡ x → look c ks ≡ y
+found-is : (l r c : ℕ) (hs ks : List Head) (x y : Option (List Leaf)) → look c hs ≡ x → look c ks ≡ y
     → found l r hs ks c ≡ head_of l r c (or_none x) (or_none y)
-found_is l r c hs ks x y d e = rw (d, e) refl
+found-is l r c hs ks x y d e = rw (d, e) refl
 
-found_same : (l r c : ℕ) (hs ks hs' ks' : List Head) → look c hs ≡ look c hs' → look c ks ≡ look c ks'
+found-same : (l r c : ℕ) (hs ks hs' ks' : List Head) → look c hs ≡ look c hs' → look c ks ≡ look c ks'
     → found l r hs ks c ≡ found l r hs' ks' c
-found_same l r c hs ks hs' ks' d e = rw (d, e) refl
+found-same l r c hs ks hs' ks' d e = rw (d, e) refl
 
-right_is : (l r : ℕ) (ks : List Head) → Ascends ks → right_list true l r ks ≡ map (found l r [] ks) (map (λ k. k.0) ks)
-right_is l r [] b = refl
-right_is l r (k ∷ ks) b =
-    let e : found l r [] (k ∷ ks) k.0 ≡ head_of l r k.0 [] k.1 = found_is l r k.0 [] (k ∷ ks) None (Some k.1) refl (look_first k.0 k ks refl) in
+right-is : (l r : ℕ) (ks : List Head) → Ascends ks → right_list true l r ks ≡ map (found l r [] ks) (map (λ k. k.0) ks)
+right-is l r [] b = refl
+right-is l r (k ∷ ks) b =
+    let e : found l r [] (k ∷ ks) k.0 ≡ head_of l r k.0 [] k.1 = found-is l r k.0 [] (k ∷ ks) None (Some k.1) refl (look-first k.0 k ks refl) in
     let more : right_list true l r ks ≡ map (found l r [] (k ∷ ks)) (map (λ k. k.0) ks) =
-    right_is l r ks (ascends_after k.0 ks b)
-    ∙ map_ext (found l r [] ks) (found l r [] (k ∷ ks)) (map (λ k. k.0) ks)
-    (each_imp (λ x. k.0 < x) (λ x. found l r [] ks x ≡ found l r [] (k ∷ ks) x)
-    (λ x s. found_same l r x [] ks [] (k ∷ ks) refl (sym (look_past x k ks s)))
-    (map (λ k. k.0) ks) (each_first (λ x. k.0 < x) ks (above_each k.0 ks b))) in
+    right-is l r ks (ascends-after k.0 ks b)
+    ∙ map-ext (λ c. (found l r [] ks) c ≡ (found l r [] (k ∷ ks)) c) (found l r [] ks) (found l r [] (k ∷ ks)) (λ c e. e) (map (λ k. k.0) ks)
+    (Each-imp (λ x. k.0 < x) (λ x. found l r [] ks x ≡ found l r [] (k ∷ ks) x)
+    (λ x s. found-same l r x [] ks [] (k ∷ ks) refl (sym (look-past x k ks s)))
+    (map (λ k. k.0) ks) (each-first (λ x. k.0 < x) ks (above-each k.0 ks b))) in
     rw (e, more) refl
 
-along_is : (l r : ℕ) (h : Head) (hs : List Head) → Above h.0 hs
+along-is : (l r : ℕ) (h : Head) (hs : List Head) → Above h.0 hs
     → ((ks : List Head) → Ascends ks → fiber_list true l r hs ks ≡ map (found l r hs ks) (coordinates hs ks))
     → (ks : List Head) → Ascends ks
     → along_list true l r h (fiber_list true l r hs) ks ≡ map (found l r (h ∷ hs) ks) (along_coordinates h.0 (coordinates hs) ks)
-along_is l r h hs a ih [] b =
-    let e : found l r (h ∷ hs) [] h.0 ≡ head_of l r h.0 h.1 [] = found_is l r h.0 (h ∷ hs) [] (Some h.1) None (look_first h.0 h hs refl) refl in
+along-is l r h hs a ih [] b =
+    let e : found l r (h ∷ hs) [] h.0 ≡ head_of l r h.0 h.1 [] = found-is l r h.0 (h ∷ hs) [] (Some h.1) None (look-first h.0 h hs refl) refl in
     let more : fiber_list true l r hs [] ≡ map (found l r (h ∷ hs) []) (coordinates hs []) =
     ih [] tt
-    ∙ map_ext (found l r hs []) (found l r (h ∷ hs) []) (coordinates hs [])
-    (each_imp (λ x. h.0 < x) (λ x. found l r hs [] x ≡ found l r (h ∷ hs) [] x)
-    (λ x s. found_same l r x hs [] (h ∷ hs) [] (sym (look_past x h hs s)) refl)
-    (coordinates hs []) (each_coordinate (λ x. h.0 < x) hs [] (above_each h.0 hs a) tt)) in
+    ∙ map-ext (λ c. (found l r hs []) c ≡ (found l r (h ∷ hs) []) c) (found l r hs []) (found l r (h ∷ hs) []) (λ c e. e) (coordinates hs [])
+    (Each-imp (λ x. h.0 < x) (λ x. found l r hs [] x ≡ found l r (h ∷ hs) [] x)
+    (λ x s. found-same l r x hs [] (h ∷ hs) [] (sym (look-past x h hs s)) refl)
+    (coordinates hs []) (each-coordinate (λ x. h.0 < x) hs [] (above-each h.0 hs a) tt)) in
     rw (e, more) refl
-along_is l r h hs a ih (k ∷ ks) b =
-    by_case (along_is l r h hs a ih ks (ascends_after k.0 ks b)) (nat_lt h.0 k.0) (nat_lt k.0 h.0) refl refl
+along-is l r h hs a ih (k ∷ ks) b =
+    by_case (along-is l r h hs a ih ks (ascends-after k.0 ks b)) (nat_lt h.0 k.0) (nat_lt k.0 h.0) refl refl
   where
     by_case : along_list true l r h (fiber_list true l r hs) ks ≡ map (found l r (h ∷ hs) ks) (along_coordinates h.0 (coordinates hs) ks)
         → (p q : Bool) → nat_lt h.0 k.0 ≡ p → nat_lt k.0 h.0 ≡ q
@@ -166,44 +159,44 @@ along_is l r h hs a ih (k ∷ ks) b =
     by_case e true q s t =
         let c : h.0 < k.0 = less h.0 k.0 s in
         let first : found l r (h ∷ hs) (k ∷ ks) h.0 ≡ head_of l r h.0 h.1 [] =
-        found_is l r h.0 (h ∷ hs) (k ∷ ks) (Some h.1) None (look_first h.0 h hs refl) (look_above h.0 (k ∷ ks) (c, b)) in
+        found-is l r h.0 (h ∷ hs) (k ∷ ks) (Some h.1) None (look-first h.0 h hs refl) (look-above h.0 (k ∷ ks) (c, b)) in
         let more : fiber_list true l r hs (k ∷ ks) ≡ map (found l r (h ∷ hs) (k ∷ ks)) (coordinates hs (k ∷ ks)) =
         ih (k ∷ ks) b
-        ∙ map_ext (found l r hs (k ∷ ks)) (found l r (h ∷ hs) (k ∷ ks)) (coordinates hs (k ∷ ks))
-        (each_imp (λ x. h.0 < x) (λ x. found l r hs (k ∷ ks) x ≡ found l r (h ∷ hs) (k ∷ ks) x)
-        (λ x y. found_same l r x hs (k ∷ ks) (h ∷ hs) (k ∷ ks) (sym (look_past x h hs y)) refl)
+        ∙ map-ext (λ c. (found l r hs (k ∷ ks)) c ≡ (found l r (h ∷ hs) (k ∷ ks)) c) (found l r hs (k ∷ ks)) (found l r (h ∷ hs) (k ∷ ks)) (λ c e. e) (coordinates hs (k ∷ ks))
+        (Each-imp (λ x. h.0 < x) (λ x. found l r hs (k ∷ ks) x ≡ found l r (h ∷ hs) (k ∷ ks) x)
+        (λ x y. found-same l r x hs (k ∷ ks) (h ∷ hs) (k ∷ ks) (sym (look-past x h hs y)) refl)
         (coordinates hs (k ∷ ks))
-        (each_coordinate (λ x. h.0 < x) hs (k ∷ ks) (above_each h.0 hs a) (above_each h.0 (k ∷ ks) (c, b)))) in
+        (each-coordinate (λ x. h.0 < x) hs (k ∷ ks) (above-each h.0 hs a) (above-each h.0 (k ∷ ks) (c, b)))) in
         rw (first, more) refl
     by_case e false true s t =
         let c : k.0 < h.0 = less k.0 h.0 t in
         let first : found l r (h ∷ hs) (k ∷ ks) k.0 ≡ head_of l r k.0 [] k.1 =
-        found_is l r k.0 (h ∷ hs) (k ∷ ks) None (Some k.1) (look_above k.0 (h ∷ hs) (c, a)) (look_first k.0 k ks refl) in
+        found-is l r k.0 (h ∷ hs) (k ∷ ks) None (Some k.1) (look-above k.0 (h ∷ hs) (c, a)) (look-first k.0 k ks refl) in
         let more : along_list true l r h (fiber_list true l r hs) ks ≡ map (found l r (h ∷ hs) (k ∷ ks)) (along_coordinates h.0 (coordinates hs) ks) =
         e
-        ∙ map_ext (found l r (h ∷ hs) ks) (found l r (h ∷ hs) (k ∷ ks)) (along_coordinates h.0 (coordinates hs) ks)
-        (each_imp (λ x. k.0 < x) (λ x. found l r (h ∷ hs) ks x ≡ found l r (h ∷ hs) (k ∷ ks) x)
-        (λ x y. found_same l r x (h ∷ hs) ks (h ∷ hs) (k ∷ ks) refl (sym (look_past x k ks y)))
+        ∙ map-ext (λ c. (found l r (h ∷ hs) ks) c ≡ (found l r (h ∷ hs) (k ∷ ks)) c) (found l r (h ∷ hs) ks) (found l r (h ∷ hs) (k ∷ ks)) (λ c e. e) (along_coordinates h.0 (coordinates hs) ks)
+        (Each-imp (λ x. k.0 < x) (λ x. found l r (h ∷ hs) ks x ≡ found l r (h ∷ hs) (k ∷ ks) x)
+        (λ x y. found-same l r x (h ∷ hs) ks (h ∷ hs) (k ∷ ks) refl (sym (look-past x k ks y)))
         (along_coordinates h.0 (coordinates hs) ks)
-        (each_coordinate (λ x. k.0 < x) (h ∷ hs) ks (above_each k.0 (h ∷ hs) (c, a)) (above_each k.0 ks b))) in
+        (each-coordinate (λ x. k.0 < x) (h ∷ hs) ks (above-each k.0 (h ∷ hs) (c, a)) (above-each k.0 ks b))) in
         rw (first, more) refl
     by_case e false false s t =
-        let same : h.0 ≡ k.0 = omega (arith, at_least h.0 k.0 s, at_least k.0 h.0 t) in
+        let same : h.0 ≡ k.0 = omega (arith, at-least h.0 k.0 s, at-least k.0 h.0 t) in
         let first : found l r (h ∷ hs) (k ∷ ks) h.0 ≡ head_of l r h.0 h.1 k.1 =
-        found_is l r h.0 (h ∷ hs) (k ∷ ks) (Some h.1) (Some k.1) (look_first h.0 h hs refl) (look_first h.0 k ks same) in
+        found-is l r h.0 (h ∷ hs) (k ∷ ks) (Some h.1) (Some k.1) (look-first h.0 h hs refl) (look-first h.0 k ks same) in
         let more : fiber_list true l r hs ks ≡ map (found l r (h ∷ hs) (k ∷ ks)) (coordinates hs ks) =
-        ih ks (ascends_after k.0 ks b)
-        ∙ map_ext (found l r hs ks) (found l r (h ∷ hs) (k ∷ ks)) (coordinates hs ks)
-        (each_imp (λ x. h.0 < x) (λ x. found l r hs ks x ≡ found l r (h ∷ hs) (k ∷ ks) x)
-        (λ x y. found_same l r x hs ks (h ∷ hs) (k ∷ ks) (sym (look_past x h hs y)) (sym (look_past x k ks (omega (arith, y, same)))))
+        ih ks (ascends-after k.0 ks b)
+        ∙ map-ext (λ c. (found l r hs ks) c ≡ (found l r (h ∷ hs) (k ∷ ks)) c) (found l r hs ks) (found l r (h ∷ hs) (k ∷ ks)) (λ c e. e) (coordinates hs ks)
+        (Each-imp (λ x. h.0 < x) (λ x. found l r hs ks x ≡ found l r (h ∷ hs) (k ∷ ks) x)
+        (λ x y. found-same l r x hs ks (h ∷ hs) (k ∷ ks) (sym (look-past x h hs y)) (sym (look-past x k ks (omega (arith, y, same)))))
         (coordinates hs ks)
-        (each_coordinate (λ x. h.0 < x) hs ks (above_each h.0 hs a) (above_each h.0 ks (above_less h.0 k.0 ks (omega (arith, same)) b)))) in
+        (each-coordinate (λ x. h.0 < x) hs ks (above-each h.0 hs a) (above-each h.0 ks (above-less h.0 k.0 ks (omega (arith, same)) b)))) in
         rw (first, more) refl
 
-list_is : (l r : ℕ) (hs : List Head) → Ascends hs → (ks : List Head) → Ascends ks
+list-is : (l r : ℕ) (hs : List Head) → Ascends hs → (ks : List Head) → Ascends ks
     → fiber_list true l r hs ks ≡ map (found l r hs ks) (coordinates hs ks)
-list_is l r [] a ks b = right_is l r ks b
-list_is l r (h ∷ hs) a ks b = along_is l r h hs a (λ ys c. list_is l r hs (ascends_after h.0 hs a) ys c) ks b
+list-is l r [] a ks b = right-is l r ks b
+list-is l r (h ∷ hs) a ks b = along-is l r h hs a (λ ys c. list-is l r hs (ascends-after h.0 hs a) ys c) ks b
 
 pub unite-order : (l r : ℕ) (hs : List Head) → Ascends hs → (ks : List Head) → Ascends ks → fiber_list true l r hs ks ≡ unite l r hs ks
-unite-order l r hs a ks b = list_is l r hs a ks b ∙ ap (map (found l r hs ks)) (sym (either_is hs a ks b))
+unite-order l r hs a ks b = list-is l r hs a ks b ∙ ap (map (found l r hs ks)) (sym (either-is hs a ks b))

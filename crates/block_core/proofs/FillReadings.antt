@@ -6,31 +6,31 @@ use Rattle.std.proofs.Common.{arith, inl, sym, ◌∙◌, ap, subst}
 use Rattle.stream_tokens.specs.declared.Token.{Token}
 use Rattle.stream_tokens.specs.declared.Token.TheVariants.{Item, Stop, Done}
 use Rattle.stream_tokens.specs.Nest.{Leaf, leaf, Fiber, beneath}
-use Rattle.stream_tokens.specs.Flat.{written, closed, flat, fibers_of}
+use Rattle.stream_tokens.specs.Flat.{fiber_tokens, closed, flat, fibers_of}
 use Rattle.stream_tokens.specs.Shapes.{on_tokens, on_fibers, under, Positive}
 use Rattle.stream_tokens.proofs.Fibers.{fibers_of-flat}
 use Rattle.stream_tokens.proofs.Algebra.{flat-on_tokens, on_fibers-under}
 use Rattle.block_core.specs.Move.{over, columns}
 use Rattle.block_core.specs.Ports.{Streams, port, ports, AllStreams, numbers_of}
-use Rattle.block_core.specs.Fill.{Chunk, Serving, Place, Filling, skip, chunks, tail_before, tail_of, beside_rows, rows, serving_with, serving, dealt, undealt, deal, filling, fill_reading, mark, stop_tokens, skips_at, number_at, stop_at, served_tokens, tail_at, port_tokens, port_streams, fill_inputs, served, filled_streams, fill_outputs}
+use Rattle.block_core.specs.Fill.{Chunk, Serving, ServedPlace, Filling, skip, chunks, tail_before, tail_of, beside_rows, rows, serving_with, serving, dealt, undealt, deal, filling, fill_reading, place_token, stop_tokens, skips_at, head_item, stop_at, served_tokens, tail_at, port_tokens, port_streams, fill_inputs, served, filled_streams, fill_outputs}
 use Rattle.block_core.specs.Kind.{FillKind, Fits, outputs}
 use Rattle.block_core.proofs.Readings.{items-read}
-use Rattle.block_core.proofs.MergeReadings.{over_at, over_ext, map_over}
+use Rattle.block_core.proofs.MergeReadings.{over-at, over-ext, map-over}
 use Rattle.block_core.proofs.Given.{Gives}
 
 -- ---- columns as rows
 
 -- columns that each have a first element
-pub rows_cons : {A : Type 0} (h : ℕ → A) (c t : ℕ → List A) → ((q : ℕ) → c q ≡ h q ∷ t q) → (b w : ℕ)
+pub rows-cons : {A : Type 0} (h : ℕ → A) (c t : ℕ → List A) → ((q : ℕ) → c q ≡ h q ∷ t q) → (b w : ℕ)
     → rows (over c b (suc w)) ≡ over h b (suc w) ∷ rows (over t b (suc w))
-rows_cons h c t e b zero = ap (map (λ y. y ∷ [])) (e b)
-rows_cons h c t e b (suc w) =
+rows-cons h c t e b zero = ap (map (λ y. y ∷ [])) (e b)
+rows-cons h c t e b (suc w) =
     ap (λ y. beside_rows y (rows (over c (suc b) (suc w)))) (e b)
-    ∙ ap (beside_rows (h b ∷ t b)) (rows_cons h c t e (suc b) w)
+    ∙ ap (beside_rows (h b ∷ t b)) (rows-cons h c t e (suc b) w)
 
-pub rows_none : {A : Type 0} (c : ℕ → List A) → ((q : ℕ) → c q ≡ []) → (b w : ℕ) → rows (over c b (suc w)) ≡ []
-rows_none c e b zero = ap (map (λ y. y ∷ [])) (e b)
-rows_none c e b (suc w) = ap (λ y. beside_rows y (rows (over c (suc b) (suc w)))) (e b)
+pub rows-none : {A : Type 0} (c : ℕ → List A) → ((q : ℕ) → c q ≡ []) → (b w : ℕ) → rows (over c b (suc w)) ≡ []
+rows-none c e b zero = ap (map (λ y. y ∷ [])) (e b)
+rows-none c e b (suc w) = ap (λ y. beside_rows y (rows (over c (suc b) (suc w)))) (e b)
 
 abbrev pub first_of : {A : Type 0} → A → List A → A
 first_of d [] = d
@@ -40,49 +40,49 @@ abbrev pub after_first : {A : Type 0} → List A → List A
 after_first [] = []
 after_first (x ∷ xs) = xs
 
-has_first : {A : Type 0} (d : A) (xs : List A) (n : ℕ) → length xs ≡ suc n → xs ≡ first_of d xs ∷ after_first xs
-has_first d [] n e = absurd (omega (arith, e))
-has_first d (x ∷ xs) n e = refl
+has-first : {A : Type 0} (d : A) (xs : List A) (n : ℕ) → length xs ≡ suc n → xs ≡ first_of d xs ∷ after_first xs
+has-first d [] n e = absurd (omega (arith, e))
+has-first d (x ∷ xs) n e = refl
 
-pub no_first : {A : Type 0} (xs : List A) → length xs ≡ 0 → xs ≡ []
-no_first [] e = refl
-no_first (x ∷ xs) e = absurd (omega (arith, e))
+pub no-first : {A : Type 0} (xs : List A) → length xs ≡ 0 → xs ≡ []
+no-first [] e = refl
+no-first (x ∷ xs) e = absurd (omega (arith, e))
 
-one_less : {A : Type 0} (xs : List A) (n : ℕ) → length xs ≡ suc n → length (after_first xs) ≡ n
-one_less [] n e = absurd (omega (arith, e))
-one_less (x ∷ xs) n e = omega (arith, e)
+one-less : {A : Type 0} (xs : List A) (n : ℕ) → length xs ≡ suc n → length (after_first xs) ≡ n
+one-less [] n e = absurd (omega (arith, e))
+one-less (x ∷ xs) n e = omega (arith, e)
 
 -- a column of the rows of columns of one length
-column_back : (n w p : ℕ) (c : ℕ → List ℕ) → p < suc w → ((q : ℕ) → length (c q) ≡ n)
+column-back : (n w p : ℕ) (c : ℕ → List ℕ) → p < suc w → ((q : ℕ) → length (c q) ≡ n)
     → map (λ h. get_or h p 0) (rows (over c 0 (suc w))) ≡ c p
-column_back zero w p c b e = ap (map (λ h. get_or h p 0)) (rows_none c (λ q. no_first (c q) (e q)) 0 w) ∙ sym (no_first (c p) (e p))
-column_back (suc n) w p c b e =
+column-back zero w p c b e = ap (map (λ h. get_or h p 0)) (rows-none c (λ q. no-first (c q) (e q)) 0 w) ∙ sym (no-first (c p) (e p))
+column-back (suc n) w p c b e =
     let h : ℕ → ℕ = λ q. first_of 0 (c q) in
     let t : ℕ → List ℕ = λ q. after_first (c q) in
-    ap (map (λ x. get_or x p 0)) (rows_cons h c t (λ q. has_first 0 (c q) n (e q)) 0 w)
-    ∙ ap (λ (x : ℕ). x ∷ map (λ y. get_or y p 0) (rows (over t 0 (suc w)))) (over_at h 0 (suc w) p 0 b ∙ ap h (omega arith))
-    ∙ ap (λ (xs : List ℕ). first_of 0 (c p) ∷ xs) (column_back n w p t b (λ q. one_less (c q) n (e q)))
-    ∙ sym (has_first 0 (c p) n (e p))
+    ap (map (λ x. get_or x p 0)) (rows-cons h c t (λ q. has-first 0 (c q) n (e q)) 0 w)
+    ∙ ap (λ (x : ℕ). x ∷ map (λ y. get_or y p 0) (rows (over t 0 (suc w)))) (over-at h 0 (suc w) p 0 b ∙ ap h (omega arith))
+    ∙ ap (λ (xs : List ℕ). first_of 0 (c p) ∷ xs) (column-back n w p t b (λ q. one-less (c q) n (e q)))
+    ∙ sym (has-first 0 (c p) n (e p))
 
 -- ---- a port's tokens by its chunks
 
 abbrev pub chunk_tokens : List Chunk → List Token → List Token
 chunk_tokens [] rest = rest
-chunk_tokens (c ∷ cs) rest = stop_tokens c.skipped (written Item c.items (Stop c.stop ∷ chunk_tokens cs rest))
+chunk_tokens (c ∷ cs) rest = stop_tokens c.skipped (fiber_tokens Item c.items (Stop c.stop ∷ chunk_tokens cs rest))
 
-one_skipped : (k : ℕ) (cs : List Chunk) (tail : List ℕ)
+one-skipped : (k : ℕ) (cs : List Chunk) (tail : List ℕ)
     → chunk_tokens (skip k cs) (stop_tokens (tail_before k cs tail) (Done ∷ [])) ≡ Stop k ∷ chunk_tokens cs (stop_tokens tail (Done ∷ []))
-one_skipped k [] tail = refl
-one_skipped k (c ∷ cs) tail = refl
+one-skipped k [] tail = refl
+one-skipped k (c ∷ cs) tail = refl
 
-pub tokens_chunked : (fs : List (Fiber ℕ)) → Positive fs → flat Item fs ≡ chunk_tokens (chunks fs) (stop_tokens (tail_of fs) (Done ∷ []))
-tokens_chunked [] w = refl
-tokens_chunked (([], n) ∷ fs) w =
+pub tokens-chunked : (fs : List (Fiber ℕ)) → Positive fs → flat Item fs ≡ chunk_tokens (chunks fs) (stop_tokens (tail_of fs) (Done ∷ []))
+tokens-chunked [] w = refl
+tokens-chunked (([], n) ∷ fs) w =
     subst (λ (x : ℕ). flat Item (([], x) ∷ fs) ≡ chunk_tokens (chunks (([], x) ∷ fs)) (stop_tokens (tail_of (([], x) ∷ fs)) (Done ∷ []))) (sym w.0.1)
-    (ap (λ (s : List Token). Stop w.0.0 ∷ s) (tokens_chunked fs w.1) ∙ sym (one_skipped w.0.0 (chunks fs) (tail_of fs)))
-tokens_chunked (((x ∷ xs), n) ∷ fs) w =
+    (ap (λ (s : List Token). Stop w.0.0 ∷ s) (tokens-chunked fs w.1) ∙ sym (one-skipped w.0.0 (chunks fs) (tail_of fs)))
+tokens-chunked (((x ∷ xs), n) ∷ fs) w =
     subst (λ (y : ℕ). flat Item (((x ∷ xs), y) ∷ fs) ≡ chunk_tokens (chunks (((x ∷ xs), y) ∷ fs)) (stop_tokens (tail_of (((x ∷ xs), y) ∷ fs)) (Done ∷ []))) (sym w.0.1)
-    (ap (λ (s : List Token). Item x ∷ written Item xs (Stop w.0.0 ∷ s)) (tokens_chunked fs w.1))
+    (ap (λ (s : List Token). Item x ∷ fiber_tokens Item xs (Stop w.0.0 ∷ s)) (tokens-chunked fs w.1))
 
 -- the fibers that aren't empty
 abbrev pub contents : List (Fiber ℕ) → List (List ℕ)
@@ -93,30 +93,30 @@ contents (((x ∷ xs), n) ∷ fs) = (x ∷ xs) ∷ contents fs
 abbrev pub content : Chunk → List ℕ
 content c = c.items
 
-skip_content : (k : ℕ) (cs : List Chunk) → map content (skip k cs) ≡ map content cs
-skip_content k [] = refl
-skip_content k (c ∷ cs) = refl
+skip-content : (k : ℕ) (cs : List Chunk) → map content (skip k cs) ≡ map content cs
+skip-content k [] = refl
+skip-content k (c ∷ cs) = refl
 
-pub chunk_contents : (fs : List (Fiber ℕ)) → map content (chunks fs) ≡ contents fs
-chunk_contents [] = refl
-chunk_contents (([], zero) ∷ fs) = skip_content 0 (chunks fs) ∙ chunk_contents fs
-chunk_contents (([], suc n) ∷ fs) = skip_content n (chunks fs) ∙ chunk_contents fs
-chunk_contents (((x ∷ xs), n) ∷ fs) = ap (λ (ys : List (List ℕ)). (x ∷ xs) ∷ ys) (chunk_contents fs)
+pub chunk-contents : (fs : List (Fiber ℕ)) → map content (chunks fs) ≡ contents fs
+chunk-contents [] = refl
+chunk-contents (([], zero) ∷ fs) = skip-content 0 (chunks fs) ∙ chunk-contents fs
+chunk-contents (([], suc n) ∷ fs) = skip-content n (chunks fs) ∙ chunk-contents fs
+chunk-contents (((x ∷ xs), n) ∷ fs) = ap (λ (ys : List (List ℕ)). (x ∷ xs) ∷ ys) (chunk-contents fs)
 
 -- each chunk has a number
 abbrev pub Full : List Chunk → Type 0
 Full [] = Unit {0}
 Full (c ∷ cs) = ((n : ℕ) × (length c.items ≡ suc n)) × Full cs
 
-skip_full : (k : ℕ) (cs : List Chunk) → Full cs → Full (skip k cs)
-skip_full k [] h = tt
-skip_full k (c ∷ cs) h = h
+skip-full : (k : ℕ) (cs : List Chunk) → Full cs → Full (skip k cs)
+skip-full k [] h = tt
+skip-full k (c ∷ cs) h = h
 
-pub chunks_full : (fs : List (Fiber ℕ)) → Full (chunks fs)
-chunks_full [] = tt
-chunks_full (([], zero) ∷ fs) = skip_full 0 (chunks fs) (chunks_full fs)
-chunks_full (([], suc n) ∷ fs) = skip_full n (chunks fs) (chunks_full fs)
-chunks_full (((x ∷ xs), n) ∷ fs) = ((length xs, refl), chunks_full fs)
+pub chunks-full : (fs : List (Fiber ℕ)) → Full (chunks fs)
+chunks-full [] = tt
+chunks-full (([], zero) ∷ fs) = skip-full 0 (chunks fs) (chunks-full fs)
+chunks-full (([], suc n) ∷ fs) = skip-full n (chunks fs) (chunks-full fs)
+chunks-full (((x ∷ xs), n) ∷ fs) = ((length xs, refl), chunks-full fs)
 
 -- ---- what is served, port by port
 
@@ -132,22 +132,22 @@ AllServe p [] (c ∷ cs) = ⊥
 AllServe p (s ∷ ss) [] = ⊥
 AllServe p (s ∷ ss) (c ∷ cs) = Serves p s c × AllServe p ss cs
 
-pub row_serves : (w p : ℕ) (c : ℕ → Chunk) (n : ℕ) → p < suc w → ((q : ℕ) → length (c q).items ≡ suc n) → Serves p (serving (over c 0 (suc w))) (c p)
-row_serves w p c n b e =
+pub row-serves : (w p : ℕ) (c : ℕ → Chunk) (n : ℕ) → p < suc w → ((q : ℕ) → length (c q).items ≡ suc n) → Serves p (serving (over c 0 (suc w))) (c p)
+row-serves w p c n b e =
     let items : ℕ → List ℕ = λ q. (c q).items in
     let h : ℕ → ℕ = λ q. first_of 0 (items q) in
     let t : ℕ → List ℕ = λ q. after_first (items q) in
     let rs : rows (map content (over c 0 (suc w))) ≡ over h 0 (suc w) ∷ rows (over t 0 (suc w)) =
-    ap rows (map_over content c 0 (suc w)) ∙ rows_cons h items t (λ q. has_first 0 (items q) n (e q)) 0 w in
+    ap rows (map-over content c 0 (suc w)) ∙ rows-cons h items t (λ q. has-first 0 (items q) n (e q)) 0 w in
     let s : serving (over c 0 (suc w))
     ≡ record { skips = over (λ q. (c q).skipped) 0 (suc w); first = over h 0 (suc w); more = rows (over t 0 (suc w)); stops = over (λ q. (c q).stop) 0 (suc w) } =
     ap (serving_with (map (λ y. y.skipped) (over c 0 (suc w))) (map (λ y. y.stop) (over c 0 (suc w)))) rs
-    ∙ ap (λ (y : List (List ℕ)). record { skips = y; first = over h 0 (suc w); more = rows (over t 0 (suc w)); stops = map (λ z. z.stop) (over c 0 (suc w)) }) (map_over (λ y. y.skipped) c 0 (suc w))
-    ∙ ap (λ (y : List ℕ). record { skips = over (λ q. (c q).skipped) 0 (suc w); first = over h 0 (suc w); more = rows (over t 0 (suc w)); stops = y }) (map_over (λ y. y.stop) c 0 (suc w)) in
+    ∙ ap (λ (y : List (List ℕ)). record { skips = y; first = over h 0 (suc w); more = rows (over t 0 (suc w)); stops = map (λ z. z.stop) (over c 0 (suc w)) }) (map-over (λ y. y.skipped) c 0 (suc w))
+    ∙ ap (λ (y : List ℕ). record { skips = over (λ q. (c q).skipped) 0 (suc w); first = over h 0 (suc w); more = rows (over t 0 (suc w)); stops = y }) (map-over (λ y. y.stop) c 0 (suc w)) in
     subst (λ (y : Serving). Serves p y (c p)) (sym s) (record {
-      skips = over_at (λ q. (c q).skipped) 0 (suc w) p [] b ∙ ap (λ (q : ℕ). (c q).skipped) (omega arith);
-      numbers = ap (map (λ y. get_or y p 0)) (sym (rows_cons h items t (λ q. has_first 0 (items q) n (e q)) 0 w)) ∙ column_back (suc n) w p items b e;
-      stops = ap Stop (over_at (λ q. (c q).stop) 0 (suc w) p 0 b ∙ ap (λ (q : ℕ). (c q).stop) (omega arith));
+      skips = over-at (λ q. (c q).skipped) 0 (suc w) p [] b ∙ ap (λ (q : ℕ). (c q).skipped) (omega arith);
+      numbers = ap (map (λ y. get_or y p 0)) (sym (rows-cons h items t (λ q. has-first 0 (items q) n (e q)) 0 w)) ∙ column-back (suc n) w p items b e;
+      stops = ap Stop (over-at (λ q. (c q).stop) 0 (suc w) p 0 b ∙ ap (λ (q : ℕ). (c q).stop) (omega arith));
     })
 
 abbrev pub no_chunk : Chunk

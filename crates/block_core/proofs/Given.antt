@@ -11,9 +11,9 @@ use Rattle.stream_tokens.specs.Shapes.{on_tokens, on_fibers, on_fiber, beneath_b
 use Rattle.stream_tokens.proofs.Algebra.{map-map, map-same, flat-on_tokens, on_tokens-on_tokens, under-on_tokens, both-under, Positive-under, Positive-on_fibers}
 use Rattle.block_core.specs.Move.{Move}
 use Rattle.block_core.specs.Ports.{Streams, AllStreams, first_item, second_leaf, second, same}
-use Rattle.block_core.specs.Change.{ItemsBelow, on_item, value_at}
+use Rattle.block_core.specs.Change.{ItemsBelow, on_item, referenced_value}
 use Rattle.block_core.specs.Scan.{Children, coordinates_below, references_below}
-use Rattle.block_core.specs.Arithmetic.{Operation, combine, sum_leaves}
+use Rattle.block_core.specs.Arithmetic.{Operation, combined_leaf, sum_leaves}
 use Rattle.block_core.specs.SumVector.{vector_sum}
 use Rattle.block_core.specs.SumMatrix.{MatrixRow, matrix_sum}
 use Rattle.block_core.specs.DropValue.{has_value}
@@ -65,8 +65,8 @@ writelevel-gives level c fs w a =
     (ap (λ (x : List Token). x ∷ []) (flat-on_tokens Item c fs)) refl a
 
 pub array-gives : (values : List ℕ) (s : List Token) → ItemsBelow (length values) s → AllStreams (s ∷ [])
-    → Gives (ArrayKind values) (s ∷ []) (map (on_item (value_at values)) s ∷ [])
-array-gives values s b a = gives (ArrayKind values) s (s ∷ []) (map (on_item (value_at values)) s ∷ []) refl b refl refl a
+    → Gives (ArrayKind values) (s ∷ []) (map (on_item (referenced_value values)) s ∷ [])
+array-gives values s b a = gives (ArrayKind values) s (s ∷ []) (map (on_item (referenced_value values)) s ∷ []) refl b refl refl a
 
 pub const-gives : (c : ℕ) (s : List Token) → AllStreams (s ∷ []) → Gives (ConstKind c) (s ∷ []) (map (on_item (λ _. c)) s ∷ [])
 const-gives c s a = gives (ConstKind c) s (s ∷ []) (map (on_item (λ _. c)) s ∷ []) refl tt refl refl a
@@ -111,7 +111,7 @@ sumscalar-over {A = A} c vs fs w s =
 
 pub alu-over : {A : Type 0} (op : Operation) (x y : A → Leaf) (fs : List (Fiber A)) → Shaped fs
     → AllStreams (flat (λ a. leaf (x a)) fs ∷ flat (λ a. leaf (y a)) fs ∷ [])
-    → Gives (AluKind op) (flat (λ a. leaf (x a)) fs ∷ flat (λ a. leaf (y a)) fs ∷ []) (flat (λ a. leaf (combine op (x a) (y a))) fs ∷ [])
+    → Gives (AluKind op) (flat (λ a. leaf (x a)) fs ∷ flat (λ a. leaf (y a)) fs ∷ []) (flat (λ a. leaf (combined_leaf op (x a) (y a))) fs ∷ [])
 alu-over {A = A} op x y fs w s =
     let g : A → Leaf × Leaf = λ a. (x a, y a) in
     let j : List (Fiber (Leaf × Leaf)) = on_tokens g fs in
@@ -119,8 +119,8 @@ alu-over {A = A} op x y fs w s =
     (alu-read j (Shaped-on_tokens g fs w)) tt
     (rw (flat-on_tokens (λ (p : Leaf × Leaf). leaf p.0) g fs, flat-on_tokens (λ (p : Leaf × Leaf). leaf p.1) g fs) refl)
     (ap (λ (z : List Token). z ∷ [])
-    (flat-on_tokens leaf (λ (p : Leaf × Leaf). combine op p.0 p.1) (on_tokens g fs)
-    ∙ flat-on_tokens (λ (p : Leaf × Leaf). leaf (combine op p.0 p.1)) g fs)) s
+    (flat-on_tokens leaf (λ (p : Leaf × Leaf). combined_leaf op p.0 p.1) (on_tokens g fs)
+    ∙ flat-on_tokens (λ (p : Leaf × Leaf). leaf (combined_leaf op p.0 p.1)) g fs)) s
 
 pub dropvalue-over : (fs : List (Fiber (ℕ × Leaf))) → Positive fs → AllStreams (flat first_item fs ∷ flat second_leaf fs ∷ [])
     → Gives DropValueKind (flat first_item fs ∷ flat second_leaf fs ∷ [])
@@ -138,10 +138,10 @@ dropfiber-over fs w s = gives DropFiberKind fs _ _ (dropfiber-read fs (inl w)) w
 abbrev pub pieces : {A B : Type 0} → (A → List B) → List (Fiber A) → List (Fiber (List B))
 pieces f fs = on_fibers (λ xs. at_least_one (map f xs)) fs
 
-has_pieces : {A B : Type 0} (f : A → List B) (fs : List (Fiber A)) → Pieces (pieces f fs)
-has_pieces f [] = tt
-has_pieces f (([], n) ∷ fs) = has_pieces f fs
-has_pieces f (((x ∷ xs), n) ∷ fs) = has_pieces f fs
+has-pieces : {A B : Type 0} (f : A → List B) (fs : List (Fiber A)) → Pieces (pieces f fs)
+has-pieces f [] = tt
+has-pieces f (([], n) ∷ fs) = has-pieces f fs
+has-pieces f (((x ∷ xs), n) ∷ fs) = has-pieces f fs
 
 pub under-cut : {A B : Type 0} (f : A → List B) (fs : List (Fiber A)) → under same (pieces f fs) ≡ under f fs
 under-cut f [] = refl
@@ -163,7 +163,7 @@ pub sumvector-over : {A : Type 0} (f : A → List (ℕ × Leaf)) (fs : List (Fib
     (flat first_item (on_fibers (λ xs. vector_sum (map f xs)) fs) ∷ flat second_leaf (on_fibers (λ xs. vector_sum (map f xs)) fs) ∷ [])
 sumvector-over f fs w s =
     let p : Positive (pieces f fs) = Positive-on_fibers (λ xs. at_least_one (map f xs)) fs w in
-    gives SumVectorKind (pieces f fs) _ _ (sumvector-read (pieces f fs) p (has_pieces f fs)) p
+    gives SumVectorKind (pieces f fs) _ _ (sumvector-read (pieces f fs) p (has-pieces f fs)) p
     (rw (under-cut f fs) refl) (rw (piecewise vector_sum f refl fs) refl) s
 
 pub summatrix-over : {A : Type 0} (f : A → List MatrixRow) (fs : List (Fiber A)) → Positive fs
@@ -173,7 +173,7 @@ pub summatrix-over : {A : Type 0} (f : A → List MatrixRow) (fs : List (Fiber A
     ∷ flat second_leaf (under second (on_fibers (λ xs. matrix_sum (map f xs)) fs)) ∷ [])
 summatrix-over f fs w s =
     let p : Positive (pieces f fs) = Positive-on_fibers (λ xs. at_least_one (map f xs)) fs w in
-    gives SumMatrixKind (pieces f fs) _ _ (summatrix-read (pieces f fs) p (has_pieces f fs)) p
+    gives SumMatrixKind (pieces f fs) _ _ (summatrix-read (pieces f fs) p (has-pieces f fs)) p
     (rw (under-cut f fs) refl) (rw (piecewise matrix_sum f refl fs) refl) s
 
 -- ---- two sides
@@ -197,25 +197,25 @@ rights [] (g ∷ gs) e = absurd e
 rights (f ∷ fs) [] e = absurd e
 rights (f ∷ fs) (g ∷ gs) e = rw (rights fs gs e.1, e.0) refl
 
-merged_both : (u : Bool) (l r : ℕ) (fs gs : List (Fiber Head)) → map (merged_of u l r) (sides_of fs gs) ≡ both (merged u l r) fs gs
-merged_both u l r [] gs = refl
-merged_both u l r (f ∷ fs) [] = refl
-merged_both u l r (f ∷ fs) (g ∷ gs) = ap (λ (x : List (Fiber Head)). (merged u l r f.0 g.0, f.1) ∷ x) (merged_both u l r fs gs)
+merged-both : (u : Bool) (l r : ℕ) (fs gs : List (Fiber Head)) → map (merged_of u l r) (sides_of fs gs) ≡ both (merged u l r) fs gs
+merged-both u l r [] gs = refl
+merged-both u l r (f ∷ fs) [] = refl
+merged-both u l r (f ∷ fs) (g ∷ gs) = ap (λ (x : List (Fiber Head)). (merged u l r f.0 g.0, f.1) ∷ x) (merged-both u l r fs gs)
 
-close_sides : (fs gs : List (Fiber Head)) → Positive fs → AllClose (sides_of fs gs)
-close_sides [] gs w = tt
-close_sides (f ∷ fs) [] w = tt
-close_sides (f ∷ fs) (g ∷ gs) w = (w.0, close_sides fs gs w.1)
+close-sides : (fs gs : List (Fiber Head)) → Positive fs → AllClose (sides_of fs gs)
+close-sides [] gs w = tt
+close-sides (f ∷ fs) [] w = tt
+close-sides (f ∷ fs) (g ∷ gs) w = (w.0, close-sides fs gs w.1)
 
 -- each fiber of a side ascends
 abbrev pub SideAscends : List (Fiber Head) → Type 0
 SideAscends [] = Unit {0}
 SideAscends (f ∷ fs) = Ascends f.0 × SideAscends fs
 
-ascend_sides : (fs gs : List (Fiber Head)) → SideAscends fs → SideAscends gs → AllAscend (sides_of fs gs)
-ascend_sides [] gs a b = tt
-ascend_sides (f ∷ fs) [] a b = tt
-ascend_sides (f ∷ fs) (g ∷ gs) a b = (a.0, b.0, ascend_sides fs gs a.1 b.1)
+ascend-sides : (fs gs : List (Fiber Head)) → SideAscends fs → SideAscends gs → AllAscend (sides_of fs gs)
+ascend-sides [] gs a b = tt
+ascend-sides (f ∷ fs) [] a b = tt
+ascend-sides (f ∷ fs) (g ∷ gs) a b = (a.0, b.0, ascend-sides fs gs a.1 b.1)
 
 pub intersect-gives : (l r : ℕ) (fs gs : List (Fiber Head)) → Positive fs → Level fs gs → Wide l fs → Wide r gs → SideAscends fs → SideAscends gs
     → AllStreams (side_streams l fs ++ side_streams r gs)
@@ -223,10 +223,10 @@ pub intersect-gives : (l r : ℕ) (fs gs : List (Fiber Head)) → Positive fs �
 intersect-gives l r fs gs w e wl wr al ar s =
     let j = sides_of fs gs in
     gives (IntersectKind l r) j _ _
-    (merge-read l r j (close_sides fs gs w) (subst (Wide l) (sym (lefts fs gs e)) wl) (subst (Wide r) (sym (rights fs gs e)) wr))
-    (record { closes = close_sides fs gs w; ascend = ascend_sides fs gs al ar })
+    (merge-read l r j (close-sides fs gs w) (subst (Wide l) (sym (lefts fs gs e)) wl) (subst (Wide r) (sym (rights fs gs e)) wr))
+    (record { closes = close-sides fs gs w; ascend = ascend-sides fs gs al ar })
     (ap (λ (x : List (Fiber Head)). side_streams l x ++ side_streams r (map right_of j)) (lefts fs gs e)
-    ∙ ap (λ (x : List (Fiber Head)). side_streams l fs ++ side_streams r x) (rights fs gs e)) (ap (side_streams (l + r)) (merged_both false l r fs gs)) s
+    ∙ ap (λ (x : List (Fiber Head)). side_streams l fs ++ side_streams r x) (rights fs gs e)) (ap (side_streams (l + r)) (merged-both false l r fs gs)) s
 
 pub union-gives : (l r : ℕ) (fs gs : List (Fiber Head)) → Positive fs → Level fs gs → Wide l fs → Wide r gs → SideAscends fs → SideAscends gs
     → AllStreams (side_streams l fs ++ side_streams r gs)
@@ -234,7 +234,7 @@ pub union-gives : (l r : ℕ) (fs gs : List (Fiber Head)) → Positive fs → Le
 union-gives l r fs gs w e wl wr al ar s =
     let j = sides_of fs gs in
     gives (UnionKind l r) j _ _
-    (merge-read l r j (close_sides fs gs w) (subst (Wide l) (sym (lefts fs gs e)) wl) (subst (Wide r) (sym (rights fs gs e)) wr))
-    (record { closes = close_sides fs gs w; ascend = ascend_sides fs gs al ar })
+    (merge-read l r j (close-sides fs gs w) (subst (Wide l) (sym (lefts fs gs e)) wl) (subst (Wide r) (sym (rights fs gs e)) wr))
+    (record { closes = close-sides fs gs w; ascend = ascend-sides fs gs al ar })
     (ap (λ (x : List (Fiber Head)). side_streams l x ++ side_streams r (map right_of j)) (lefts fs gs e)
-    ∙ ap (λ (x : List (Fiber Head)). side_streams l fs ++ side_streams r x) (rights fs gs e)) (ap (side_streams (l + r)) (merged_both true l r fs gs)) s
+    ∙ ap (λ (x : List (Fiber Head)). side_streams l fs ++ side_streams r x) (rights fs gs e)) (ap (side_streams (l + r)) (merged-both true l r fs gs)) s

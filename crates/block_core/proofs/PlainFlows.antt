@@ -4,7 +4,7 @@ use Rattle.std.specs.List.{filter}
 use mathlib.Core.List.{map}
 use Rattle.stream_tokens.specs.declared.Token.{Token}
 use Rattle.stream_tokens.specs.Nest.{Leaf, leaf, Fiber}
-use Rattle.stream_tokens.specs.Flat.{written}
+use Rattle.stream_tokens.specs.Flat.{fiber_tokens}
 use Rattle.block_core.specs.Move.{Move, columns}
 use Rattle.block_core.specs.Ports.{first_item, first_leaf, second_leaf}
 use Rattle.block_core.specs.Root.{root_outputs, root_moves}
@@ -27,32 +27,32 @@ pub change-flows : (f : ℕ → ℕ) (s : List Token) → Flows (change_moves f 
 change-flows f [] = (tt, tt)
 change-flows f (t ∷ s) = (refl, (refl, change-flows f s))
 
-none_across : (p n : ℕ) → NoTokens (columns (λ _. []) p n)
-none_across p zero = tt
-none_across p (suc n) = none_across (suc p) n
+none-across : (p n : ℕ) → NoTokens (columns (λ _. []) p n)
+none-across p zero = tt
+none-across p (suc n) = none-across (suc p) n
 
 pub cast-flows : (outs : ℕ) (s : List Token) → Flows (cast_moves outs s) (s ∷ []) (cast_outputs outs s)
-cast-flows outs [] = (tt, none_across 0 outs)
+cast-flows outs [] = (tt, none-across 0 outs)
 cast-flows outs (t ∷ s) = (refl, put-across outs 0 (λ _. t) (λ _. s) (cast_moves outs s) (s ∷ []) (cast-flows outs s))
 
-alu_leaf : (op : Operation) (ps : List (Leaf × Leaf)) (rest : List Move) (a b o : List Token) → Flows rest (a ∷ b ∷ []) (o ∷ [])
-    → Flows (alu_leaves op ps rest) (written first_leaf ps a ∷ written second_leaf ps b ∷ []) (written leaf (map (combined op) ps) o ∷ [])
-alu_leaf op [] rest a b o h = h
-alu_leaf op (p ∷ ps) rest a b o h = (refl, (refl, (refl, alu_leaf op ps rest a b o h)))
+alu-leaf : (op : Operation) (ps : List (Leaf × Leaf)) (rest : List Move) (a b o : List Token) → Flows rest (a ∷ b ∷ []) (o ∷ [])
+    → Flows (alu_leaves op ps rest) (fiber_tokens first_leaf ps a ∷ fiber_tokens second_leaf ps b ∷ []) (fiber_tokens leaf (map (combined op) ps) o ∷ [])
+alu-leaf op [] rest a b o h = h
+alu-leaf op (p ∷ ps) rest a b o h = (refl, (refl, (refl, alu-leaf op ps rest a b o h)))
 
 pub alu-flows : (op : Operation) (j : List (Fiber (Leaf × Leaf))) → Flows (alu_moves op j) (alu_inputs j) (alu_outputs op j)
 alu-flows op [] = (refl, (refl, (refl, (tt, tt))))
-alu-flows op ((ps, zero) ∷ fs) = alu_leaf op ps _ _ _ _ (alu-flows op fs)
-alu-flows op ((ps, suc k) ∷ fs) = alu_leaf op ps _ _ _ _ (refl, (refl, (refl, alu-flows op fs)))
+alu-flows op ((ps, zero) ∷ fs) = alu-leaf op ps _ _ _ _ (alu-flows op fs)
+alu-flows op ((ps, suc k) ∷ fs) = alu-leaf op ps _ _ _ _ (refl, (refl, (refl, alu-flows op fs)))
 
-dropvalue_leaf : (ps : List (ℕ × Leaf)) (rest : List Move) (a b o q : List Token) → Flows rest (a ∷ b ∷ []) (o ∷ q ∷ [])
-    → Flows (dropvalue_leaves ps rest) (written first_item ps a ∷ written second_leaf ps b ∷ [])
-    (written first_item (filter has_value ps) o ∷ written second_leaf (filter has_value ps) q ∷ [])
-dropvalue_leaf [] rest a b o q h = h
-dropvalue_leaf ((c, None) ∷ ps) rest a b o q h = (refl, (refl, dropvalue_leaf ps rest a b o q h))
-dropvalue_leaf ((c, Some x) ∷ ps) rest a b o q h = (refl, (refl, (refl, (refl, dropvalue_leaf ps rest a b o q h))))
+dropvalue-leaf : (ps : List (ℕ × Leaf)) (rest : List Move) (a b o q : List Token) → Flows rest (a ∷ b ∷ []) (o ∷ q ∷ [])
+    → Flows (dropvalue_leaves ps rest) (fiber_tokens first_item ps a ∷ fiber_tokens second_leaf ps b ∷ [])
+    (fiber_tokens first_item (filter has_value ps) o ∷ fiber_tokens second_leaf (filter has_value ps) q ∷ [])
+dropvalue-leaf [] rest a b o q h = h
+dropvalue-leaf ((c, None) ∷ ps) rest a b o q h = (refl, (refl, dropvalue-leaf ps rest a b o q h))
+dropvalue-leaf ((c, Some x) ∷ ps) rest a b o q h = (refl, (refl, (refl, (refl, dropvalue-leaf ps rest a b o q h))))
 
 pub dropvalue-flows : (j : List (Fiber (ℕ × Leaf))) → Flows (dropvalue_moves j) (dropvalue_inputs j) (dropvalue_outputs j)
 dropvalue-flows [] = (refl, (refl, (refl, (refl, (tt, tt)))))
-dropvalue-flows ((ps, zero) ∷ fs) = dropvalue_leaf ps _ _ _ _ _ (dropvalue-flows fs)
-dropvalue-flows ((ps, suc k) ∷ fs) = dropvalue_leaf ps _ _ _ _ _ (refl, (refl, (refl, (refl, dropvalue-flows fs))))
+dropvalue-flows ((ps, zero) ∷ fs) = dropvalue-leaf ps _ _ _ _ _ (dropvalue-flows fs)
+dropvalue-flows ((ps, suc k) ∷ fs) = dropvalue-leaf ps _ _ _ _ _ (refl, (refl, (refl, (refl, dropvalue-flows fs))))

@@ -14,37 +14,37 @@ use Rattle.block_core.specs.Steps.{MayTake, MayPut}
 use Rattle.block_core.specs.Bursts.{MayTakeNext, MayPutNext, MayPour, Poured}
 
 -- the move that a wish tells of
-pub next_take : (ms : List Move) (p : ℕ) → Take p ≡ wish_of ms → (t : Token) × (rest : List Move) × (ms ≡ Taking p t ∷ rest)
-next_take [] p e = absurd (cc)
-next_take (Taking q t ∷ rest) p e = let same : p ≡ q = cc in (t, rest, ap (λ x. Taking x t ∷ rest) (sym same))
-next_take (Putting q t ∷ rest) p e = absurd (cc)
+pub next-take : (ms : List Move) (p : ℕ) → Take p ≡ wish_of ms → (t : Token) × (rest : List Move) × (ms ≡ Taking p t ∷ rest)
+next-take [] p e = absurd (cc)
+next-take (Taking q t ∷ rest) p e = let same : p ≡ q = cc in (t, rest, ap (λ x. Taking x t ∷ rest) (sym same))
+next-take (Putting q t ∷ rest) p e = absurd (cc)
 
-pub next_put : (ms : List Move) (p : ℕ) (t : Token) → Put p t ≡ wish_of ms → (rest : List Move) × (ms ≡ Putting p t ∷ rest)
-next_put [] p t e = absurd (cc)
-next_put (Taking q u ∷ rest) p t e = absurd (cc)
-next_put (Putting q u ∷ rest) p t e =
+pub next-put : (ms : List Move) (p : ℕ) (t : Token) → Put p t ≡ wish_of ms → (rest : List Move) × (ms ≡ Putting p t ∷ rest)
+next-put [] p t e = absurd (cc)
+next-put (Taking q u ∷ rest) p t e = absurd (cc)
+next-put (Putting q u ∷ rest) p t e =
     let same : q ≡ p = cc in
     let equal : u ≡ t = cc in
     (rest, ap (λ x. Putting x u ∷ rest) same ∙ ap (λ x. Putting p x ∷ rest) equal)
 
 -- the first of those that are left is the move at the place, and the rest is what is left after it
-pub at_place : (ms : List Move) (n : ℕ) (m : Move) (rest : List Move) → drop n ms ≡ m ∷ rest → slice_get ms n ≡ Some m
-at_place [] zero m rest e = absurd (cc)
-at_place [] (suc n) m rest e = absurd (cc)
-at_place (x ∷ xs) zero m rest e = cc
-at_place (x ∷ xs) (suc n) m rest e = at_place xs n m rest e
+pub at-place : (ms : List Move) (n : ℕ) (m : Move) (rest : List Move) → drop n ms ≡ m ∷ rest → slice_get ms n ≡ Some m
+at-place [] zero m rest e = absurd (cc)
+at-place [] (suc n) m rest e = absurd (cc)
+at-place (x ∷ xs) zero m rest e = cc
+at-place (x ∷ xs) (suc n) m rest e = at-place xs n m rest e
 
-pub drop_twice : (ms : List Move) (n k : ℕ) → drop k (drop n ms) ≡ drop (n + k) ms
-drop_twice ms zero k = let e : k ≡ 0 + k = omega arith in ap (λ i. drop i ms) e
-drop_twice [] (suc n) k = nothing k ∙ sym (nothing (suc n + k))
+pub drop-twice : (ms : List Move) (n k : ℕ) → drop k (drop n ms) ≡ drop (n + k) ms
+drop-twice ms zero k = let e : k ≡ 0 + k = omega arith in ap (λ i. drop i ms) e
+drop-twice [] (suc n) k = nothing k ∙ sym (nothing (suc n + k))
   where
     nothing : (i : ℕ) → ◌≡◌ {A = List Move} (drop i []) []
     nothing zero = refl
     nothing (suc i) = refl
-drop_twice (x ∷ xs) (suc n) k = let e : suc n + k ≡ suc (n + k) = omega arith in drop_twice xs n k ∙ sym (ap (λ i. drop i (x ∷ xs)) e)
+drop-twice (x ∷ xs) (suc n) k = let e : suc n + k ≡ suc (n + k) = omega arith in drop-twice xs n k ∙ sym (ap (λ i. drop i (x ∷ xs)) e)
 
-pub take_next : (ms : List Move) (k : ℕ) (m : Move) (rest : List Move) → drop k ms ≡ m ∷ rest → take (k + 1) ms ≡ take k ms ++ m ∷ []
-take_next ms k m rest e = let one : k + 1 ≡ suc k = omega arith in ap (λ i. take i ms) one ∙ there ms k e
+pub take-next : (ms : List Move) (k : ℕ) (m : Move) (rest : List Move) → drop k ms ≡ m ∷ rest → take (k + 1) ms ≡ take k ms ++ m ∷ []
+take-next ms k m rest e = let one : k + 1 ≡ suc k = omega arith in ap (λ i. take i ms) one ∙ there ms k e
   where
     there : (ms : List Move) (k : ℕ) → drop k ms ≡ m ∷ rest → take (suc k) ms ≡ take k ms ++ m ∷ []
     there [] zero e = absurd (cc)
@@ -60,7 +60,7 @@ module _ {B P : Type 0} (kind : B → Kind) (stands : B → Streams → ℕ → 
   pub fed_then : ((p q : P) (xs rest : List Move) → did p xs q → fed p (xs ++ rest) → fed q rest)
       → (p q : P) (ms : List Move) (n k : ℕ) → fed p (drop n ms) → did p (take k (drop n ms)) q → fed q (drop (n + k) ms)
   fed_then after p q ms n k fd d =
-      subst (fed q) (drop_twice ms n k)
+      subst (fed q) (drop-twice ms n k)
       (after p q (take k (drop n ms)) (drop k (drop n ms)) d (subst (fed p) (sym (take-append-drop k (drop n ms))) fd))
 
   pub may_then : ((p q : P) (xs rest : List Move) → did p xs q → fed p (xs ++ rest) → fed q rest)
@@ -82,18 +82,18 @@ module _ {B P : Type 0} (kind : B → Kind) (stands : B → Streams → ℕ → 
       let ms = moves (kind b) s in
       let fd' : fed p' (drop (n + z.0) ms) = fed_then after p p' ms n z.0 fd z.3 in
       let next = step s (n + z.0) z.2 (subst (λ k. fed p' (drop (n + z.0) (moves k s))) (sym same) fd') in
-      let at : drop z.0 (drop n ms) ≡ m ∷ next.0.0 = drop_twice ms n z.0 ∙ ap (λ k. drop (n + z.0) (moves k s)) (sym same) ∙ next.0.1 in (
+      let at : drop z.0 (drop n ms) ≡ m ∷ next.0.0 = drop-twice ms n z.0 ∙ ap (λ k. drop (n + z.0) (moves k s)) (sym same) ∙ next.0.1 in (
         z.0 + 1,
         λ _. omega arith,
         subst (stands b'' s) (omega arith) next.1,
-        subst (λ (xs : List Move). did p xs p'') (sym (take_next (drop n ms) z.0 m next.0.0 at)) (joined p p' p'' (take z.0 (drop n ms)) (m ∷ []) z.3 d),
+        subst (λ (xs : List Move). did p xs p'') (sym (take-next (drop n ms) z.0 m next.0.0 at)) (joined p p' p'' (take z.0 (drop n ms)) (m ∷ []) z.3 d),
       )
 
   -- where the wish tells of a take, what is needed to make it
   module _ (b : B) (p : P) (may : MayPour kind stands fed b p) where
     pub may_take_next : (port : ℕ) → ((s : Streams) (n : ℕ) → stands b s n → Take port ≡ wish_of (drop n (moves (kind b) s))) → MayTakeNext (fed p) port
     may_take_next port wish = ∥∥₁_map may (λ r.
-        let e = next_take (drop r.1 (moves (kind b) r.0)) port (wish r.0 r.1 r.2) in
+        let e = next-take (drop r.1 (moves (kind b) r.0)) port (wish r.0 r.1 r.2) in
         (e.0, e.1, subst (fed p) e.2 r.3))
 
     pub may_take : (first : P → ℕ → Option Token)
@@ -101,19 +101,19 @@ module _ {B P : Type 0} (kind : B → Kind) (stands : B → Streams → ℕ → 
         → (port : ℕ) (t : Token) → ((s : Streams) (n : ℕ) → stands b s n → Take port ≡ wish_of (drop n (moves (kind b) s))) → first p port ≡ Some t
         → MayTake (stands b) (kind b) port t
     may_take first next port t wish e = ∥∥₁_map may (λ r.
-        let f = next_take (drop r.1 (moves (kind b) r.0)) port (wish r.0 r.1 r.2) in
+        let f = next-take (drop r.1 (moves (kind b) r.0)) port (wish r.0 r.1 r.2) in
         let same : t ≡ f.0 = next p port t f.0 f.1 e (subst (fed p) f.2 r.3) in
-        (r.0, r.1, r.2, at_place (moves (kind b) r.0) r.1 (Taking port t) f.1 (f.2 ∙ ap (λ x. Taking port x ∷ f.1) (sym same))))
+        (r.0, r.1, r.2, at-place (moves (kind b) r.0) r.1 (Taking port t) f.1 (f.2 ∙ ap (λ x. Taking port x ∷ f.1) (sym same))))
 
     pub may_put_next : (port : ℕ) (t : Token) → ((s : Streams) (n : ℕ) → stands b s n → Put port t ≡ wish_of (drop n (moves (kind b) s))) → MayPutNext (fed p) port t
     may_put_next port t wish = ∥∥₁_map may (λ r.
-        let e = next_put (drop r.1 (moves (kind b) r.0)) port t (wish r.0 r.1 r.2) in
+        let e = next-put (drop r.1 (moves (kind b) r.0)) port t (wish r.0 r.1 r.2) in
         (e.0, subst (fed p) e.1 r.3))
 
     pub may_put : (port : ℕ) (t : Token) → ((s : Streams) (n : ℕ) → stands b s n → Put port t ≡ wish_of (drop n (moves (kind b) s))) → MayPut (stands b) (kind b)
     may_put port t wish = ∥∥₁_map may (λ r.
-        let e = next_put (drop r.1 (moves (kind b) r.0)) port t (wish r.0 r.1 r.2) in
-        (r.0, r.1, port, t, r.2, at_place (moves (kind b) r.0) r.1 (Putting port t) e.0 e.1))
+        let e = next-put (drop r.1 (moves (kind b) r.0)) port t (wish r.0 r.1 r.2) in
+        (r.0, r.1, port, t, r.2, at-place (moves (kind b) r.0) r.1 (Putting port t) e.0 e.1))
 
   -- a take more and a put more
   pub poured_take : (first : P → ℕ → Option Token)
@@ -127,10 +127,10 @@ module _ {B P : Type 0} (kind : B → Kind) (stands : B → Streams → ℕ → 
       → did p' (Taking port t ∷ []) p'' → Poured kind stands fed did b p b'' p'' true
   poured_take first next after joined b p b' p' went b'' p'' port t same h wish e moved d =
       poured_move after joined b p b' p' went b'' p'' (Taking port t) same h (λ s n st fd.
-      let f = next_take (drop n (moves (kind b') s)) port (wish s n st) in
+      let f = next-take (drop n (moves (kind b') s)) port (wish s n st) in
       let is : t ≡ f.0 = next p' port t f.0 f.1 e (subst (fed p') f.2 fd) in
       let at : drop n (moves (kind b') s) ≡ Taking port t ∷ f.1 = f.2 ∙ ap (λ x. Taking port x ∷ f.1) (sym is) in
-      ((f.1, at), moved s n st (at_place (moves (kind b') s) n (Taking port t) f.1 at))) d
+      ((f.1, at), moved s n st (at-place (moves (kind b') s) n (Taking port t) f.1 at))) d
 
   pub poured_put : ((p q : P) (xs rest : List Move) → did p xs q → fed p (xs ++ rest) → fed q rest)
       → ((p q r : P) (xs ys : List Move) → did p xs q → did q ys r → did p (xs ++ ys) r)
@@ -141,8 +141,8 @@ module _ {B P : Type 0} (kind : B → Kind) (stands : B → Streams → ℕ → 
       → did p' (Putting port t ∷ []) p'' → Poured kind stands fed did b p b'' p'' true
   poured_put after joined b p b' p' went b'' p'' port t same h wish moved d =
       poured_move after joined b p b' p' went b'' p'' (Putting port t) same h (λ s n st fd.
-      let f = next_put (drop n (moves (kind b') s)) port t (wish s n st) in
-      (f, moved s n port t st (at_place (moves (kind b') s) n (Putting port t) f.0 f.1))) d
+      let f = next-put (drop n (moves (kind b') s)) port t (wish s n st) in
+      (f, moved s n port t st (at-place (moves (kind b') s) n (Putting port t) f.0 f.1))) d
 
   -- nothing more
   pub poured_still : ((p q r : P) (xs ys : List Move) → did p xs q → did q ys r → did p (xs ++ ys) r)
@@ -155,45 +155,45 @@ module _ {B P : Type 0} (kind : B → Kind) (stands : B → Streams → ℕ → 
   pub poured_some : (b : B) (p : P) (b' : B) (p' : P) (went : Bool) → Poured kind stands fed did b p b' p' went → Poured kind stands fed did b p b' p' false
   poured_some b p b' p' went h s n st fd = let z = h s n st fd in (z.0, λ e. absurd (cc), z.2, z.3)
 
-pub take_sum : (ms : List Move) (j k : ℕ) → take (j + k) ms ≡ take j ms ++ take k (drop j ms)
-take_sum ms zero k = let e : 0 + k ≡ k = omega arith in ap (λ n. take n ms) e
-take_sum [] (suc j) k = let e : suc j + k ≡ suc (j + k) = omega arith in ap (λ n. take n []) e ∙ sym (nothing k)
+pub take-sum : (ms : List Move) (j k : ℕ) → take (j + k) ms ≡ take j ms ++ take k (drop j ms)
+take-sum ms zero k = let e : 0 + k ≡ k = omega arith in ap (λ n. take n ms) e
+take-sum [] (suc j) k = let e : suc j + k ≡ suc (j + k) = omega arith in ap (λ n. take n []) e ∙ sym (nothing k)
   where
     nothing : (n : ℕ) → ◌≡◌ {A = List Move} (take n []) []
     nothing zero = refl
     nothing (suc n) = refl
-take_sum (x ∷ xs) (suc j) k = let e : suc j + k ≡ suc (j + k) = omega arith in ap (λ n. take n (x ∷ xs)) e ∙ ap (λ (z : List Move). x ∷ z) (take_sum xs j k)
+take-sum (x ∷ xs) (suc j) k = let e : suc j + k ≡ suc (j + k) = omega arith in ap (λ n. take n (x ∷ xs)) e ∙ ap (λ (z : List Move). x ∷ z) (take-sum xs j k)
 
 -- a burst after another
-pub poured_then : {B P : Type 0} (kind : B → Kind) (stands : B → Streams → ℕ → Type 0) (fed : P → List Move → Type 0) (did : P → List Move → P → Type 0)
+pub poured-then : {B P : Type 0} (kind : B → Kind) (stands : B → Streams → ℕ → Type 0) (fed : P → List Move → Type 0) (did : P → List Move → P → Type 0)
     → ((p q : P) (xs rest : List Move) → did p xs q → fed p (xs ++ rest) → fed q rest)
     → ((p q r : P) (xs ys : List Move) → did p xs q → did q ys r → did p (xs ++ ys) r)
     → (b : B) (p : P) (b' : B) (p' : P) (a : Bool) (b'' : B) (p'' : P) (went : Bool) → kind b' ≡ kind b
     → Poured kind stands fed did b p b' p' a → Poured kind stands fed did b' p' b'' p'' went → Poured kind stands fed did b p b'' p'' went
-poured_then kind stands fed did after joined b p b' p' a b'' p'' went same first next s n st fd =
+poured-then kind stands fed did after joined b p b' p' a b'' p'' went same first next s n st fd =
     let ms = moves (kind b) s in
     let x = first s n st fd in
     let fd' : fed p' (drop (n + x.0) ms) = fed_then kind stands fed did after p p' ms n x.0 fd x.3 in
     let y = next s (n + x.0) x.2 (subst (λ k. fed p' (drop (n + x.0) (moves k s))) (sym same) fd') in
     let here : take y.0 (drop (n + x.0) (moves (kind b') s)) ≡ take y.0 (drop x.0 (drop n ms)) =
-    ap (λ k. take y.0 (drop (n + x.0) (moves k s))) same ∙ ap (λ (z : List Move). take y.0 z) (sym (drop_twice ms n x.0)) in
+    ap (λ k. take y.0 (drop (n + x.0) (moves k s))) same ∙ ap (λ (z : List Move). take y.0 z) (sym (drop-twice ms n x.0)) in
     let d : did p' (take y.0 (drop x.0 (drop n ms))) p'' = subst (λ (z : List Move). did p' z p'') here y.3 in
     let more = y.1 in (
       x.0 + y.0,
       λ z. let h = more z in omega (arith, h),
       subst (stands b'' s) (omega arith) y.2,
-      subst (λ (z : List Move). did p z p'') (sym (take_sum (drop n ms) x.0 y.0)) (joined p p' p'' (take x.0 (drop n ms)) (take y.0 (drop x.0 (drop n ms))) x.3 d),
+      subst (λ (z : List Move). did p z p'') (sym (take-sum (drop n ms) x.0 y.0)) (joined p p' p'' (take x.0 (drop n ms)) (take y.0 (drop x.0 (drop n ms))) x.3 d),
     )
 
-pub always_err : {T E : Type 0} (r : Result T E) {P : Type 0} → P → IfErr r (λ _. P)
-always_err (Ok x) p = tt
-always_err (Err e) p = p
+pub always-err : {T E : Type 0} (r : Result T E) {P : Type 0} → P → IfErr r (λ _. P)
+always-err (Ok x) p = tt
+always-err (Err e) p = p
 
 -- the token that waits first is the one that is taken next
-pub first_is : {P : Type 0} (fed : P → List Move → Type 0) (waits : P → ℕ → List Token)
+pub first-is : {P : Type 0} (fed : P → List Move → Type 0) (waits : P → ℕ → List Token)
     → ((p : P) (port : ℕ) (t : Token) (rest : List Move) → fed p (Taking port t ∷ rest) → (more : List Token) × (waits p port ++ more ≡ takes port (Taking port t ∷ rest)))
     → (p : P) (port : ℕ) (t u : Token) (rest : List Move) → slice_get (waits p port) 0 ≡ Some t → fed p (Taking port u ∷ rest) → t ≡ u
-first_is fed waits comes p port t u rest e f =
+first-is fed waits comes p port t u rest e f =
     let h = comes p port u rest f in
     let here : takes port (Taking port u ∷ rest) ≡ u ∷ takes port rest = ap (λ (b : Bool). cond b (u ∷ takes port rest) (takes port rest)) (eq-eqb port port refl) in
     front h.0 (waits p port) e (h.1 ∙ here)
@@ -202,10 +202,10 @@ first_is fed waits comes p port t u rest e f =
     front more [] e h = absurd (cc)
     front more (w ∷ ws) e h = cc
 
-pub ok_map : {T E : Type 0} (r : Result T E) {P Q : T → Type 0} → ((x : T) → P x → Q x) → IfOk r P → IfOk r Q
-ok_map (Ok x) f h = f x h
-ok_map (Err e) f h = tt
+pub ok-map : {T E : Type 0} (r : Result T E) {P Q : T → Type 0} → ((x : T) → P x → Q x) → IfOk r P → IfOk r Q
+ok-map (Ok x) f h = f x h
+ok-map (Err e) f h = tt
 
-pub err_map : {T E : Type 0} (r : Result T E) {P Q : E → Type 0} → ((x : E) → P x → Q x) → IfErr r P → IfErr r Q
-err_map (Ok x) f h = tt
-err_map (Err e) f h = f e h
+pub err-map : {T E : Type 0} (r : Result T E) {P Q : E → Type 0} → ((x : E) → P x → Q x) → IfErr r P → IfErr r Q
+err-map (Ok x) f h = tt
+err-map (Err e) f h = f e h

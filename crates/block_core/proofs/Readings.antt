@@ -17,6 +17,7 @@ use Rattle.block_core.specs.SumVector.{sumvector_reading, sumvector_inputs}
 use Rattle.block_core.specs.SumMatrix.{MatrixRow, summatrix_reading, summatrix_inputs}
 use Rattle.block_core.specs.DropValue.{dropvalue_reading, dropvalue_inputs}
 use Rattle.block_core.specs.DropFiber.{dropfiber_reading, dropfiber_inputs}
+use Rattle.block_core.specs.Written.{numbers_among, item_fibers}
 
 -- ---- one stream
 
@@ -35,13 +36,25 @@ numbers-read f fs w =
 pub items-read : (fs : List (Fiber ℕ)) → Shaped fs → numbers_of (flat Item fs) ≡ fs
 items-read fs w = numbers-read (λ x. x) fs w ∙ on_tokens-same fs
 
+-- numbers alone are all numbers
+pub numbers_among-on_tokens : (fs : List (Fiber ℕ)) → on_fibers numbers_among (on_tokens Some fs) ≡ fs
+numbers_among-on_tokens [] = refl
+numbers_among-on_tokens (f ∷ fs) = rw (all-numbers f.0, numbers_among-on_tokens fs) refl
+  where
+    all-numbers : (xs : List ℕ) → numbers_among (map Some xs) ≡ xs
+    all-numbers [] = refl
+    all-numbers (x ∷ xs) = ap (λ (ns : List ℕ). x ∷ ns) (all-numbers xs)
+
+pub item_fibers-flat : (fs : List (Fiber ℕ)) → Shaped fs → item_fibers (flat Item fs) ≡ fs
+item_fibers-flat fs w = ap (on_fibers numbers_among) (leaves-read Some fs w) ∙ numbers_among-on_tokens fs
+
 -- ---- two streams of one shape, and one beneath another
 
-both_back : {A B : Type 0} (fs : List (Fiber (A × B))) → both pairs (on_tokens (λ x. x.0) fs) (on_tokens (λ x. x.1) fs) ≡ fs
-both_back fs = both-pairs (λ x. x.0) (λ x. x.1) fs ∙ on_tokens-same fs
+both-back : {A B : Type 0} (fs : List (Fiber (A × B))) → both pairs (on_tokens (λ x. x.0) fs) (on_tokens (λ x. x.1) fs) ≡ fs
+both-back fs = both-pairs (λ x. x.0) (λ x. x.1) fs ∙ on_tokens-same fs
 
-split_back : {A B : Type 0} (fs : List (Fiber (A × List B))) → split (on_tokens (λ x. x.0) fs) (under second fs) ≡ fs
-split_back fs = split-under (λ x. x.0) second fs ∙ on_tokens-same fs
+split-back : {A B : Type 0} (fs : List (Fiber (A × List B))) → split (on_tokens (λ x. x.0) fs) (under second fs) ≡ fs
+split-back fs = split-under (λ x. x.0) second fs ∙ on_tokens-same fs
 
 pub scan-read : (j : List (Fiber Leaf)) → Shaped j → scan_reading (scan_inputs j) ≡ j
 scan-read j w = fibers_of-flat j w
@@ -50,19 +63,19 @@ pub level-read : (j : List (Fiber ℕ)) → Shaped j → numbers_of (flat Item j
 level-read j w = items-read j w
 
 pub alu-read : (j : List (Fiber (Leaf × Leaf))) → Shaped j → alu_reading (alu_inputs j) ≡ j
-alu-read j w = rw (leaves-read (λ x. x.0) j w, leaves-read (λ x. x.1) j w) (both_back j)
+alu-read j w = rw (leaves-read (λ x. x.0) j w, leaves-read (λ x. x.1) j w) (both-back j)
 
 pub dropvalue-read : (j : List (Fiber (ℕ × Leaf))) → Shaped j → dropvalue_reading (dropvalue_inputs j) ≡ j
-dropvalue-read j w = rw (numbers-read (λ x. x.0) j w, leaves-read (λ x. x.1) j w) (both_back j)
+dropvalue-read j w = rw (numbers-read (λ x. x.0) j w, leaves-read (λ x. x.1) j w) (both-back j)
 
 pub repeat-read : (j : List (Fiber (Leaf × List ℕ))) → Shaped j → repeat_reading (repeat_inputs j) ≡ j
-repeat-read j w = rw (leaves-read (λ x. x.0) j w, items-read (under second j) (inl (Positive-under second j))) (split_back j)
+repeat-read j w = rw (leaves-read (λ x. x.0) j w, items-read (under second j) (inl (Positive-under second j))) (split-back j)
 
 pub sumscalar-read : (j : List (Fiber (ℕ × List Leaf))) → Shaped j → sumscalar_reading (sumscalar_inputs j) ≡ j
-sumscalar-read j w = rw (numbers-read (λ x. x.0) j w, fibers_of-flat (under second j) (inl (Positive-under second j))) (split_back j)
+sumscalar-read j w = rw (numbers-read (λ x. x.0) j w, fibers_of-flat (under second j) (inl (Positive-under second j))) (split-back j)
 
 pub dropfiber-read : (j : List (Fiber (ℕ × List ℕ))) → Shaped j → dropfiber_reading (dropfiber_inputs j) ≡ j
-dropfiber-read j w = rw (numbers-read (λ x. x.0) j w, items-read (under second j) (inl (Positive-under second j))) (split_back j)
+dropfiber-read j w = rw (numbers-read (λ x. x.0) j w, items-read (under second j) (inl (Positive-under second j))) (split-back j)
 
 -- ---- pieces
 
@@ -72,23 +85,23 @@ Pieces [] = Unit {0}
 Pieces (([], n) ∷ fs) = ⊥
 Pieces (((x ∷ xs), n) ∷ fs) = Pieces fs
 
-none_added : {A : Type 0} (j : List (Fiber (List A))) → Pieces j → on_fibers (λ xs. at_least_one (map same xs)) j ≡ j
-none_added [] h = refl
-none_added (([], n) ∷ fs) h = absurd h
-none_added (((x ∷ xs), n) ∷ fs) h = rw (map-same xs, none_added fs h) refl
+none-added : {A : Type 0} (j : List (Fiber (List A))) → Pieces j → on_fibers (λ xs. at_least_one (map same xs)) j ≡ j
+none-added [] h = refl
+none-added (([], n) ∷ fs) h = absurd h
+none-added (((x ∷ xs), n) ∷ fs) h = rw (map-same xs, none-added fs h) refl
 
-cut_back : {A : Type 0} (j : List (Fiber (List A))) → Positive j → Pieces j → cut (under same j) ≡ j
-cut_back j w h = cut-under same j w ∙ none_added j h
+cut-back : {A : Type 0} (j : List (Fiber (List A))) → Positive j → Pieces j → cut (under same j) ≡ j
+cut-back j w h = cut-under same j w ∙ none-added j h
 
 pub sumvector-read : (j : List (Fiber (List (ℕ × Leaf)))) → Positive j → Pieces j → sumvector_reading (sumvector_inputs j) ≡ j
 sumvector-read j w h =
     let s : Shaped (under same j) = inl (Positive-under same j) in
-    rw (numbers-read (λ x. x.0) (under same j) s, leaves-read (λ x. x.1) (under same j) s) (ap cut (both_back (under same j)) ∙ cut_back j w h)
+    rw (numbers-read (λ x. x.0) (under same j) s, leaves-read (λ x. x.1) (under same j) s) (ap cut (both-back (under same j)) ∙ cut-back j w h)
 
 pub summatrix-read : (j : List (Fiber (List MatrixRow))) → Positive j → Pieces j → summatrix_reading (summatrix_inputs j) ≡ j
 summatrix-read j w h =
     let s : Shaped (under same j) = inl (Positive-under same j) in
     let u : Shaped (under second (under same j)) = inl (Positive-under second (under same j)) in
     rw (numbers-read (λ x. x.0) (under same j) s, numbers-read (λ x. x.0) (under second (under same j)) u, leaves-read (λ x. x.1) (under second (under same j)) u)
-    (ap (λ v. cut (split (on_tokens (λ x. x.0) (under same j)) v)) (both_back (under second (under same j)))
-    ∙ ap cut (split_back (under same j)) ∙ cut_back j w h)
+    (ap (λ v. cut (split (on_tokens (λ x. x.0) (under same j)) v)) (both-back (under second (under same j)))
+    ∙ ap cut (split-back (under same j)) ∙ cut-back j w h)

@@ -10,55 +10,55 @@ use Rattle.block_core.specs.Stands.{Stands}
 use Rattle.block_core.specs.Runs.{Steps, Runs}
 
 -- the move at a place, and those after it
-pub drop_at : (ms : List Move) (n : ℕ) (m : Move) → slice_get ms n ≡ Some m → drop n ms ≡ m ∷ drop (suc n) ms
-drop_at [] n m e = absurd (cc)
-drop_at (x ∷ xs) zero m e = cc
-drop_at (x ∷ xs) (suc n) m e = drop_at xs n m e
+pub drop-at : (ms : List Move) (n : ℕ) (m : Move) → slice_get ms n ≡ Some m → drop n ms ≡ m ∷ drop (suc n) ms
+drop-at [] n m e = absurd (cc)
+drop-at (x ∷ xs) zero m e = cc
+drop-at (x ∷ xs) (suc n) m e = drop-at xs n m e
 
 -- a place that holds a move is within the list
-pub within_at : (ms : List Move) (n : ℕ) (m : Move) → slice_get ms n ≡ Some m → n < length ms
-within_at [] n m e = absurd (cc)
-within_at (x ∷ xs) zero m e = omega arith
-within_at (x ∷ xs) (suc n) m e = omega (arith, within_at xs n m e)
+pub within-at : (ms : List Move) (n : ℕ) (m : Move) → slice_get ms n ≡ Some m → n < length ms
+within-at [] n m e = absurd (cc)
+within-at (x ∷ xs) zero m e = omega arith
+within-at (x ∷ xs) (suc n) m e = omega (arith, within-at xs n m e)
 
 -- what a state wants is the next of the moves that it leads to
-pub wants_next : {S : Type 0} (m : Steps S) (s : S) (ms : List Move) → Runs m s ms → m.wants s ≡ wish_of ms
-wants_next m s [] h = h
-wants_next m s (Taking p t ∷ rest) h = h.0
-wants_next m s (Putting p t ∷ rest) h = h.0
+pub wants-next : {S : Type 0} (m : Steps S) (s : S) (ms : List Move) → Runs m s ms → m.wants s ≡ wish_of ms
+wants-next m s [] h = h
+wants-next m s (Taking p t ∷ rest) h = h.0
+wants-next m s (Putting p t ∷ rest) h = h.0
 
-pub stands_start : {S : Type 0} (m : Steps S) (s : S) (kind : Kind) (w : Streams)
+pub stands-start : {S : Type 0} (m : Steps S) (s : S) (kind : Kind) (w : Streams)
     → Fits kind w → Runs m s (moves kind w) → Stands (Runs m s) kind w 0
-stands_start m s kind w f r = record { fits = f; within = omega arith; rest = r }
+stands-start m s kind w f r = record { fits = f; within = omega arith; rest = r }
 
-pub stands_wish : {S : Type 0} (m : Steps S) (s : S) (kind : Kind) (w : Streams) (n : ℕ) (x : Wish)
+pub stands-wish : {S : Type 0} (m : Steps S) (s : S) (kind : Kind) (w : Streams) (n : ℕ) (x : Wish)
     → x ≡ m.wants s → Stands (Runs m s) kind w n → x ≡ wish_of (drop n (moves kind w))
-stands_wish m s kind w n x e h = e ∙ wants_next m s _ h.rest
+stands-wish m s kind w n x e h = e ∙ wants-next m s _ h.rest
 
-pub stands_take : {S : Type 0} (m : Steps S) (s s' : S) (kind : Kind) (w : Streams) (n port : ℕ) (t : Token)
+pub stands-take : {S : Type 0} (m : Steps S) (s s' : S) (kind : Kind) (w : Streams) (n port : ℕ) (t : Token)
     → s' ≡ m.took s t → slice_get (moves kind w) n ≡ Some (Taking port t)
     → Stands (Runs m s) kind w n → Stands (Runs m s') kind w (n + 1)
-stands_take {S = S} m s s' kind w n port t e at h =
+stands-take {S = S} m s s' kind w n port t e at h =
     let P : S → Type 0 = λ x. Stands (Runs m x) kind w (n + 1) in
-    let r : Runs m s (Taking port t ∷ drop (suc n) (moves kind w)) = subst (λ (x : List Move). Runs m s x) (drop_at _ n _ at) h.rest in
-    let b : n + 1 ≤ length (moves kind w) = omega (arith, within_at _ n _ at) in
+    let r : Runs m s (Taking port t ∷ drop (suc n) (moves kind w)) = subst (λ (x : List Move). Runs m s x) (drop-at _ n _ at) h.rest in
+    let b : n + 1 ≤ length (moves kind w) = omega (arith, within-at _ n _ at) in
     let r' : Runs m (m.took s t) (drop (n + 1) (moves kind w)) = rw add-one r.1 in
     subst P (sym e) (record { fits = h.fits; within = b; rest = r' })
 
-pub stands_put : {S : Type 0} (m : Steps S) (s s' : S) (kind : Kind) (w : Streams) (n port : ℕ) (t : Token)
+pub stands-put : {S : Type 0} (m : Steps S) (s s' : S) (kind : Kind) (w : Streams) (n port : ℕ) (t : Token)
     → s' ≡ m.put s → slice_get (moves kind w) n ≡ Some (Putting port t)
     → Stands (Runs m s) kind w n → Stands (Runs m s') kind w (n + 1)
-stands_put {S = S} m s s' kind w n port t e at h =
+stands-put {S = S} m s s' kind w n port t e at h =
     let P : S → Type 0 = λ x. Stands (Runs m x) kind w (n + 1) in
-    let r : Runs m s (Putting port t ∷ drop (suc n) (moves kind w)) = subst (λ (x : List Move). Runs m s x) (drop_at _ n _ at) h.rest in
-    let b : n + 1 ≤ length (moves kind w) = omega (arith, within_at _ n _ at) in
+    let r : Runs m s (Putting port t ∷ drop (suc n) (moves kind w)) = subst (λ (x : List Move). Runs m s x) (drop-at _ n _ at) h.rest in
+    let b : n + 1 ≤ length (moves kind w) = omega (arith, within-at _ n _ at) in
     let r' : Runs m (m.put s) (drop (n + 1) (moves kind w)) = rw add-one r.1 in
     subst P (sym e) (record { fits = h.fits; within = b; rest = r' })
 
 -- the same for any fact of the moves that are left
-pub stands_step : (W W' : List Move → Type 0) (kind : Kind) (w : Streams) (n : ℕ) (m : Move)
+pub stands-step : (W W' : List Move → Type 0) (kind : Kind) (w : Streams) (n : ℕ) (m : Move)
     → ((rest : List Move) → W (m ∷ rest) → W' rest) → slice_get (moves kind w) n ≡ Some m → Stands W kind w n → Stands W' kind w (n + 1)
-stands_step W W' kind w n m f at h =
-    let r : W (m ∷ drop (suc n) (moves kind w)) = subst W (drop_at _ n _ at) h.rest in
-    let b : n + 1 ≤ length (moves kind w) = omega (arith, within_at _ n _ at) in
+stands-step W W' kind w n m f at h =
+    let r : W (m ∷ drop (suc n) (moves kind w)) = subst W (drop-at _ n _ at) h.rest in
+    let b : n + 1 ≤ length (moves kind w) = omega (arith, within-at _ n _ at) in
     record { fits = h.fits; within = b; rest = rw add-one (f (drop (suc n) (moves kind w)) r) }

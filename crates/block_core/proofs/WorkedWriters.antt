@@ -34,6 +34,13 @@ level_one_segs = refl
 level_one_crds : crds_of (Stop 0 ∷ Done ∷ []) ≡ []
 level_one_crds = refl
 
+-- an empty token is no item: it is neither counted nor a reason for an end
+uncounted_segs : segs_of 1 (Item 4 ∷ Empty ∷ Stop 0 ∷ Done ∷ []) ≡ 0 ∷ 1 ∷ []
+uncounted_segs = refl
+
+without_items_segs : segs_of 2 (Item 1 ∷ Empty ∷ Stop 0 ∷ Empty ∷ Stop 1 ∷ Done ∷ []) ≡ 0 ∷ 1 ∷ []
+without_items_segs = refl
+
 -- of values: an item 0 stays, an empty token doesn't
 values_written : vals_of (Item 5 ∷ Empty ∷ Item 0 ∷ Stop 0 ∷ Stop 1 ∷ Done ∷ []) ≡ 5 ∷ 0 ∷ []
 values_written = refl

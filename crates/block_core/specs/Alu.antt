@@ -6,10 +6,10 @@ use Rattle.stream_tokens.specs.Flat.{flat, fibers_of}
 use Rattle.stream_tokens.specs.Shapes.{both, pairs, on_tokens}
 use Rattle.block_core.specs.Move.{Move, Taking, Putting, take_two}
 use Rattle.block_core.specs.Ports.{Streams, port, first_leaf, second_leaf}
-use Rattle.block_core.specs.Arithmetic.{Operation, combine}
+use Rattle.block_core.specs.Arithmetic.{Operation, combined_leaf}
 
 abbrev pub combined : Operation → Leaf × Leaf → Leaf
-combined op p = combine op p.0 p.1
+combined op p = combined_leaf op p.0 p.1
 
 abbrev pub alu_reading : Streams → List (Fiber (Leaf × Leaf))
 alu_reading ins = both pairs (fibers_of (port 0 ins)) (fibers_of (port 1 ins))

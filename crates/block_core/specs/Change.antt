@@ -13,8 +13,8 @@ on_item f (Stop n) = Stop n
 on_item f Done = Done
 
 -- the value at a reference
-abbrev pub value_at : List ℕ → ℕ → ℕ
-value_at values r = get_or values r 0
+abbrev pub referenced_value : List ℕ → ℕ → ℕ
+referenced_value values r = get_or values r 0
 
 -- each number is below n
 abbrev pub ItemsBelow : ℕ → List Token → Type 0

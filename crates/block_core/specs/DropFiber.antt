@@ -30,15 +30,15 @@ abbrev pub pass_items : List ℕ → List Move → List Move
 pass_items [] rest = rest
 pass_items (c ∷ cs) rest = Taking 1 (Item c) ∷ Putting 1 (Item c) ∷ pass_items cs rest
 
-abbrev pub opened_one : Bool → List Move → List Move
-opened_one true rest = Putting 1 (Stop 0) ∷ rest
-opened_one false rest = rest
+abbrev pub parting_one : Bool → List Move → List Move
+parting_one true rest = Putting 1 (Stop 0) ∷ rest
+parting_one false rest = rest
 
 -- an outer coordinate with its fiber up to that fiber's stop, where the flag says whether one was kept before; go says
 -- how to go on, with the flag after it
 abbrev pub keep_moves : Bool → ℕ → List ℕ → (Bool → List Move) → List Move
 keep_moves more a [] go = go more
-keep_moves more a (c ∷ cs) go = Taking 1 (Item c) ∷ Putting 0 (Item a) ∷ opened_one more (Putting 1 (Item c) ∷ pass_items cs (go true))
+keep_moves more a (c ∷ cs) go = Taking 1 (Item c) ∷ Putting 0 (Item a) ∷ parting_one more (Putting 1 (Item c) ∷ pass_items cs (go true))
 
 -- both stops of an outer fiber that closes n lists
 abbrev pub keep_close : ℕ → List Move → List Move

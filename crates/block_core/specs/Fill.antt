@@ -4,7 +4,7 @@ use mathlib.Core.List.{map}
 use Rattle.stream_tokens.specs.declared.Token.{Token}
 use Rattle.stream_tokens.specs.declared.Token.TheVariants.{Item, Empty, Stop, Done}
 use Rattle.stream_tokens.specs.Nest.{Leaf, leaf, Fiber}
-use Rattle.stream_tokens.specs.Flat.{written, flat, fibers_of}
+use Rattle.stream_tokens.specs.Flat.{fiber_tokens, flat, fibers_of}
 use Rattle.stream_tokens.specs.Shapes.{under}
 use Rattle.block_core.specs.Move.{Move, Taking, take_row, put_row, put_all, across, columns}
 use Rattle.block_core.specs.Ports.{Streams, port, ports, numbers_of}
@@ -24,11 +24,11 @@ pub record Serving : Type 0 where
   pub stops : List ℕ
 
 -- a place of the presence: an item and what it is served, or nothing
-abbrev pub Place : Type 0
-Place = Option (ℕ × Serving)
+abbrev pub ServedPlace : Type 0
+ServedPlace = Option (ℕ × Serving)
 
 pub record Filling : Type 0 where
-  pub fibers : List (Fiber Place)
+  pub fibers : List (Fiber ServedPlace)
   -- by ports the stops of the empty fibers after all
   pub tails : List (List ℕ)
 
@@ -72,7 +72,7 @@ abbrev pub serving : List Chunk → Serving
 serving cs = serving_with (map (λ c. c.skipped) cs) (map (λ c. c.stop) cs) (rows (map (λ c. c.items) cs))
 
 -- each item of the presence gets the next serving
-abbrev pub dealt : List Leaf → List Serving → List Place
+abbrev pub dealt : List Leaf → List Serving → List ServedPlace
 dealt [] q = []
 dealt (None ∷ ts) q = None ∷ dealt ts q
 dealt (Some n ∷ ts) [] = None ∷ dealt ts []
@@ -84,7 +84,7 @@ undealt (None ∷ ts) q = undealt ts q
 undealt (Some n ∷ ts) [] = []
 undealt (Some n ∷ ts) (s ∷ q) = undealt ts q
 
-abbrev pub deal : List (Fiber Leaf) → List Serving → List (Fiber Place)
+abbrev pub deal : List (Fiber Leaf) → List Serving → List (Fiber ServedPlace)
 deal [] q = []
 deal (f ∷ fs) q = (dealt f.0 q, f.1) ∷ deal fs (undealt f.0 q)
 
@@ -96,12 +96,12 @@ fill_reading payloads ins = filling (fibers_of (port 0 ins)) (map numbers_of (po
 
 -- ---- the streams
 
-abbrev pub marked : Place → Leaf
-marked None = None
-marked (Some s) = Some s.0
+abbrev pub place_leaf : ServedPlace → Leaf
+place_leaf None = None
+place_leaf (Some s) = Some s.0
 
-abbrev pub mark : Place → Token
-mark x = leaf (marked x)
+abbrev pub place_token : ServedPlace → Token
+place_token x = leaf (place_leaf x)
 
 abbrev pub stop_tokens : List ℕ → List Token → List Token
 stop_tokens [] rest = rest
@@ -111,22 +111,22 @@ abbrev pub skips_at : Serving → ℕ → List ℕ
 skips_at s p = get_or s.skips p []
 
 -- the token of port p of a head, and the stop there after the heads
-abbrev pub number_at : ℕ → List ℕ → Token
-number_at p h = Item (get_or h p 0)
+abbrev pub head_item : ℕ → List ℕ → Token
+head_item p h = Item (get_or h p 0)
 
 abbrev pub stop_at : Serving → ℕ → Token
 stop_at s p = Stop (get_or s.stops p 0)
 
-abbrev pub served_tokens : ℕ → List Place → List Token → List Token
+abbrev pub served_tokens : ℕ → List ServedPlace → List Token → List Token
 served_tokens p [] rest = rest
 served_tokens p (None ∷ xs) rest = served_tokens p xs rest
 served_tokens p (Some s ∷ xs) rest =
-    stop_tokens (skips_at s.1 p) (written (number_at p) (s.1.first ∷ s.1.more) (stop_at s.1 p ∷ served_tokens p xs rest))
+    stop_tokens (skips_at s.1 p) (fiber_tokens (head_item p) (s.1.first ∷ s.1.more) (stop_at s.1 p ∷ served_tokens p xs rest))
 
 abbrev pub tail_at : List (List ℕ) → ℕ → List ℕ
 tail_at tails p = get_or tails p []
 
-abbrev pub port_tokens : List (List ℕ) → ℕ → List (Fiber Place) → List Token
+abbrev pub port_tokens : List (List ℕ) → ℕ → List (Fiber ServedPlace) → List Token
 port_tokens tails p [] = stop_tokens (tail_at tails p) (Done ∷ [])
 port_tokens tails p (f ∷ fs) = served_tokens p f.0 (port_tokens tails p fs)
 
@@ -134,25 +134,25 @@ abbrev pub port_streams : ℕ → Filling → List (List Token)
 port_streams w j = columns (λ p. port_tokens j.tails p j.fibers) 0 w
 
 abbrev pub fill_inputs : ℕ → Filling → Streams
-fill_inputs payloads j = flat mark j.fibers ∷ port_streams (suc payloads) j
+fill_inputs payloads j = flat place_token j.fibers ∷ port_streams (suc payloads) j
 
 -- ---- the function: beneath an item its heads, and nothing beneath nothing
 
-abbrev pub served : Place → List (List ℕ)
+abbrev pub served : ServedPlace → List (List ℕ)
 served None = []
 served (Some s) = s.1.first ∷ s.1.more
 
 abbrev pub filled_streams : ℕ → List (Fiber (List ℕ)) → List (List Token)
-filled_streams w fs = columns (λ p. flat (number_at p) fs) 0 w
+filled_streams w fs = columns (λ p. flat (head_item p) fs) 0 w
 
 abbrev pub fill_outputs : ℕ → Filling → Streams
 fill_outputs payloads j = filled_streams (suc payloads) (under served j.fibers)
 
 -- ---- the moves, with w ports of coordinates and payloads
 
-abbrev pub opened_all : ℕ → Bool → List Move → List Move
-opened_all w true rest = put_all w (Stop 0) rest
-opened_all w false rest = rest
+abbrev pub parting_all : ℕ → Bool → List Move → List Move
+parting_all w true rest = put_all w (Stop 0) rest
+parting_all w false rest = rest
 
 abbrev pub take_stops : ℕ → List ℕ → List Move → List Move
 take_stops p [] rest = rest
@@ -164,7 +164,7 @@ past_takes stops t b p zero rest = rest
 past_takes stops t b p (suc n) rest = take_stops b (stops p) (Taking b (t p) ∷ past_takes stops t (b + 1) (suc p) n rest)
 
 abbrev pub head_row : ℕ → List ℕ → List Token
-head_row w h = across (λ p. number_at p h) 0 w
+head_row w h = across (λ p. head_item p h) 0 w
 
 abbrev pub more_moves : ℕ → List (List ℕ) → List Move → List Move
 more_moves w [] rest = rest
@@ -172,15 +172,15 @@ more_moves w (h ∷ hs) rest = take_row 1 (head_row w h) (put_row 0 (head_row w 
 
 abbrev pub serve : ℕ → Serving → List Move → List Move
 serve w s rest =
-    past_takes (skips_at s) (λ p. number_at p s.first) 1 0 w
+    past_takes (skips_at s) (λ p. head_item p s.first) 1 0 w
     (put_row 0 (head_row w s.first) (more_moves w s.more (take_row 1 (across (stop_at s) 0 w) rest)))
 
 -- the places of a fiber that closes n lists; the flag says whether one was before
-abbrev pub fill_places : ℕ → ℕ → Bool → List Place → List Move → List Move
+abbrev pub fill_places : ℕ → ℕ → Bool → List ServedPlace → List Move → List Move
 fill_places w n more [] rest = Taking 0 (Stop (pred n)) ∷ put_all w (Stop n) rest
-fill_places w n more (None ∷ xs) rest = Taking 0 Empty ∷ opened_all w more (fill_places w n true xs rest)
-fill_places w n more (Some s ∷ xs) rest = Taking 0 (Item s.0) ∷ opened_all w more (serve w s.1 (fill_places w n true xs rest))
+fill_places w n more (None ∷ xs) rest = Taking 0 Empty ∷ parting_all w more (fill_places w n true xs rest)
+fill_places w n more (Some s ∷ xs) rest = Taking 0 (Item s.0) ∷ parting_all w more (serve w s.1 (fill_places w n true xs rest))
 
-abbrev pub fill_moves : ℕ → List (List ℕ) → List (Fiber Place) → List Move
+abbrev pub fill_moves : ℕ → List (List ℕ) → List (Fiber ServedPlace) → List Move
 fill_moves w tails [] = Taking 0 Done ∷ past_takes (tail_at tails) (λ _. Done) 1 0 w (put_all w Done [])
 fill_moves w tails (f ∷ fs) = fill_places w f.1 false f.0 (fill_moves w tails fs)

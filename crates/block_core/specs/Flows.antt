@@ -25,9 +25,9 @@ Flows (Taking p t ∷ ms) ins outs = Front p t ins (λ r. Flows ms r outs)
 Flows (Putting p t ∷ ms) ins outs = Front p t outs (λ r. Flows ms ins r)
 
 -- the tokens of all streams together
-abbrev pub total : Streams → ℕ
-total [] = 0
-total (s ∷ ss) = length s + total ss
+abbrev pub token_total : Streams → ℕ
+token_total [] = 0
+token_total (s ∷ ss) = length s + token_total ss
 
 -- these moves have taken all of the inputs and put all of the outputs
 pub record Through (ins : Streams) (ms : List Move) (outs : Streams) : Type 0 where
@@ -38,5 +38,5 @@ pub record Through (ins : Streams) (ms : List Move) (outs : Streams) : Type 0 wh
 -- of them come to that end.
 pub record Passes (ins : Streams) (ms : List Move) (outs : Streams) : Type 0 where
   pub through : Through ins ms outs
-  pub number : length ms ≡ total ins + total outs
+  pub number : length ms ≡ token_total ins + token_total outs
   pub ends : (n : ℕ) → n ≤ length ms → (wish_of (drop n ms) ≡ Finished) ↔ Through ins (take n ms) outs

@@ -12,7 +12,7 @@ use Rattle.block_core.specs.Scan.{Children, scan_reading, scan_inputs, scan_outp
 use Rattle.block_core.specs.Repeat.{repeat_reading, repeat_inputs, repeat_outputs, repeat_moves}
 use Rattle.block_core.specs.Cast.{cast_outputs, cast_moves, drain_moves}
 use Rattle.block_core.specs.Merge.{Sides, merge_reading, merge_inputs, merge_outputs, merge_moves, SidesFit}
-use Rattle.block_core.specs.Change.{ItemsBelow, value_at, change_outputs, change_moves}
+use Rattle.block_core.specs.Change.{ItemsBelow, referenced_value, change_outputs, change_moves}
 use Rattle.block_core.specs.Arithmetic.{Operation}
 use Rattle.block_core.specs.Alu.{alu_reading, alu_inputs, alu_outputs, alu_moves}
 use Rattle.block_core.specs.SumScalar.{sumscalar_reading, sumscalar_inputs, sumscalar_outputs, sumscalar_moves}
@@ -157,7 +157,7 @@ made (CastKind outs) j = cast_outputs outs j
 made DrainKind j = []
 made (IntersectKind l r) j = merge_outputs false l r j
 made (UnionKind l r) j = merge_outputs true l r j
-made (ArrayKind values) j = change_outputs (value_at values) j
+made (ArrayKind values) j = change_outputs (referenced_value values) j
 made (AluKind op) j = alu_outputs op j
 made (ConstKind c) j = change_outputs (λ _. c) j
 made SumScalarKind j = sumscalar_outputs j
@@ -178,7 +178,7 @@ played (CastKind outs) j = cast_moves outs j
 played DrainKind j = drain_moves j
 played (IntersectKind l r) j = merge_moves false l r j
 played (UnionKind l r) j = merge_moves true l r j
-played (ArrayKind values) j = change_moves (value_at values) j
+played (ArrayKind values) j = change_moves (referenced_value values) j
 played (AluKind op) j = alu_moves op j
 played (ConstKind c) j = change_moves (λ _. c) j
 played SumScalarKind j = sumscalar_moves j

@@ -8,8 +8,8 @@ use Rattle.stream_tokens.specs.Shapes.{under, split}
 use Rattle.block_core.specs.Move.{Move, Taking, Putting}
 use Rattle.block_core.specs.Ports.{Streams, port, numbers_of, first_leaf, second}
 
-abbrev pub repeated : Leaf × List ℕ → List Leaf
-repeated m = map (λ _. m.0) m.1
+abbrev pub copies_of : Leaf × List ℕ → List Leaf
+copies_of m = map (λ _. m.0) m.1
 
 -- each outer token with the fiber that lies beneath it
 abbrev pub repeat_reading : Streams → List (Fiber (Leaf × List ℕ))
@@ -19,7 +19,7 @@ abbrev pub repeat_inputs : List (Fiber (Leaf × List ℕ)) → Streams
 repeat_inputs j = flat Item (under second j) ∷ flat first_leaf j ∷ []
 
 abbrev pub repeat_outputs : List (Fiber (Leaf × List ℕ)) → Streams
-repeat_outputs j = flat leaf (under repeated j) ∷ []
+repeat_outputs j = flat leaf (under copies_of j) ∷ []
 
 -- ---- the moves
 

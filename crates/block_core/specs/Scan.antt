@@ -39,9 +39,9 @@ pub record ScanFits (children : Children) (j : List (Fiber Leaf)) : Type 0 where
 
 -- ---- the moves
 
-abbrev pub opened : Bool → List Move → List Move
-opened true rest = put_two (Stop 0) rest
-opened false rest = rest
+abbrev pub parting_two : Bool → List Move → List Move
+parting_two true rest = put_two (Stop 0) rest
+parting_two false rest = rest
 
 abbrev pub kid_moves : List (ℕ × ℕ) → List Move → List Move
 kid_moves [] rest = rest
@@ -50,7 +50,7 @@ kid_moves (c ∷ cs) rest = Putting 0 (Item c.0) ∷ Putting 1 (Item c.1) ∷ ki
 -- the flag says whether a token was taken since the last stop
 abbrev pub scan_moves : Children → Bool → List Token → List Move
 scan_moves children more [] = []
-scan_moves children more (Item r ∷ s) = Taking 0 (Item r) ∷ opened more (kid_moves (kids children (Some r)) (scan_moves children true s))
-scan_moves children more (Empty ∷ s) = Taking 0 Empty ∷ opened more (scan_moves children true s)
+scan_moves children more (Item r ∷ s) = Taking 0 (Item r) ∷ parting_two more (kid_moves (kids children (Some r)) (scan_moves children true s))
+scan_moves children more (Empty ∷ s) = Taking 0 Empty ∷ parting_two more (scan_moves children true s)
 scan_moves children more (Stop n ∷ s) = Taking 0 (Stop n) ∷ put_two (Stop (suc n)) (scan_moves children false s)
-scan_moves children more (Done ∷ s) = Taking 0 Done ∷ opened more (put_two Done [])
+scan_moves children more (Done ∷ s) = Taking 0 Done ∷ parting_two more (put_two Done [])

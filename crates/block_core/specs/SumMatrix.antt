@@ -9,7 +9,7 @@ use Rattle.stream_tokens.specs.Flat.{flat, fibers_of}
 use Rattle.stream_tokens.specs.Shapes.{both, pairs, split, cut, under, on_fibers}
 use Rattle.block_core.specs.Move.{Move, Taking, Putting}
 use Rattle.block_core.specs.Ports.{Streams, port, numbers_of, first_item, second_leaf, second, same}
-use Rattle.block_core.specs.Arithmetic.{Plus, combine}
+use Rattle.block_core.specs.Arithmetic.{Plus, combined_leaf}
 use Rattle.block_core.specs.Gather.{gather, all_of}
 
 -- an outer coordinate with its fiber, and a piece: the outer fibers up to a stop above 0
@@ -19,15 +19,15 @@ MatrixRow = ℕ × List (ℕ × Leaf)
 abbrev pub MatrixPiece : Type 0
 MatrixPiece = List (List MatrixRow)
 
-abbrev pub join : List (ℕ × Leaf) → List (ℕ × Leaf) → List (ℕ × Leaf)
-join xs ys = xs ++ ys
+abbrev pub append_pairs : List (ℕ × Leaf) → List (ℕ × Leaf) → List (ℕ × Leaf)
+append_pairs xs ys = xs ++ ys
 
 abbrev pub row_sum : MatrixRow → MatrixRow
-row_sum g = (g.0, gather (combine Plus) g.1)
+row_sum g = (g.0, gather (combined_leaf Plus) g.1)
 
 -- the outer coordinates of all fibers of a piece, each with the sums of all fibers of it
 abbrev pub matrix_sum : MatrixPiece → List MatrixRow
-matrix_sum xss = map row_sum (gather join (all_of xss))
+matrix_sum xss = map row_sum (gather append_pairs (all_of xss))
 
 abbrev pub summatrix_reading : Streams → List (Fiber (List MatrixRow))
 summatrix_reading ins = cut (split (numbers_of (port 0 ins)) (both pairs (numbers_of (port 1 ins)) (fibers_of (port 2 ins))))
@@ -76,10 +76,10 @@ row_puts g [] rest = Putting 0 (Item g.0) ∷ put_inner g.1 rest
 row_puts g (g' ∷ gs) rest = Putting 0 (Item g.0) ∷ put_inner g.1 (put_under (Stop 0) (row_puts g' gs rest))
 
 -- what is kept is put, and the stop m - 1, with m beneath
-abbrev pub flush : ℕ → List MatrixRow → List Move → List Move
-flush m [] rest = Putting 0 (Stop (pred m)) ∷ put_under (Stop m) rest
-flush m (g ∷ gs) rest = row_puts g gs (Putting 0 (Stop (pred m)) ∷ put_under (Stop m) rest)
+abbrev pub flush_moves : ℕ → List MatrixRow → List Move → List Move
+flush_moves m [] rest = Putting 0 (Stop (pred m)) ∷ put_under (Stop m) rest
+flush_moves m (g ∷ gs) rest = row_puts g gs (Putting 0 (Stop (pred m)) ∷ put_under (Stop m) rest)
 
 abbrev pub summatrix_moves : List (Fiber (List MatrixRow)) → List Move
 summatrix_moves [] = Taking 0 Done ∷ take_under Done (Putting 0 Done ∷ put_under Done [])
-summatrix_moves (f ∷ fs) = matrix_takes f.1 f.0 (flush f.1 (matrix_sum f.0) (summatrix_moves fs))
+summatrix_moves (f ∷ fs) = matrix_takes f.1 f.0 (flush_moves f.1 (matrix_sum f.0) (summatrix_moves fs))

@@ -6,12 +6,12 @@ use Rattle.stream_tokens.specs.Flat.{flat, fibers_of}
 use Rattle.stream_tokens.specs.Shapes.{both, pairs, cut, under, on_fibers}
 use Rattle.block_core.specs.Move.{Move, Taking, Putting, take_two, put_two}
 use Rattle.block_core.specs.Ports.{Streams, port, numbers_of, first_item, second_leaf, same}
-use Rattle.block_core.specs.Arithmetic.{Plus, combine}
+use Rattle.block_core.specs.Arithmetic.{Plus, combined_leaf}
 use Rattle.block_core.specs.Gather.{gather, all_of}
 
 -- A piece is the fibers up to a stop above 0: the coordinates of all its fibers, with their sums.
 abbrev pub vector_sum : List (List (ℕ × Leaf)) → List (ℕ × Leaf)
-vector_sum xss = gather (combine Plus) (all_of xss)
+vector_sum xss = gather (combined_leaf Plus) (all_of xss)
 
 abbrev pub sumvector_reading : Streams → List (Fiber (List (ℕ × Leaf)))
 sumvector_reading ins = cut (both pairs (numbers_of (port 0 ins)) (fibers_of (port 1 ins)))

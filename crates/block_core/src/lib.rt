@@ -1,16 +1,19 @@
 //! What every block of the machine does: it takes and puts tokens one at a time.
 #![tactic(auto)]
 
-ghost use Rattle.std.specs.Prelude.{◌≡◌, ℕ, ◌+◌, ◌≤◌, List, [], ◌∷◌, ◌++◌, Bool, true, false, length, take, drop, slice_get, Some, IsSome, IsOk, IfOk, IfErr};
+ghost use Rattle.std.specs.Prelude.{◌≡◌, ℕ, ◌+◌, ◌≤◌, ◌<◌, List, [], ◌∷◌, ◌++◌, Bool, true, false, length, take, drop, slice_get, Some, IsSome, IsOk, IfOk, IfErr};
 ghost use Rattle.stream_tokens.specs.declared.Token.{Token as Tok};
 ghost use Rattle.block_core.specs.Move.{Move, Taking, Putting, wish_of, takes};
 ghost use Rattle.block_core.specs.Bursts.{Poured, MayPour, MayTakeNext, MayPutNext, MayRelay, relayed};
 ghost use Rattle.block_core.specs.Agree.{AgreeFor};
-ghost use Rattle.block_core.specs.Steps.{MayTake, MayPut};
+ghost use Rattle.block_core.specs.Steps.{MayTake, MayPut, StandsAfterTake, StandsAfterPut};
 ghost use Rattle.block_core.specs.Ports.{Streams};
 ghost use Rattle.block_core.specs.Kind.{Kind, Fits, outputs, moves, ins_of, outs_of};
 ghost use Rattle.block_core.specs.Flows.{Passes};
 
+mod arithmetic;
+
+pub use arithmetic::plus;
 use std::alloc::AllocError;
 use stream_tokens::Token;
 
@@ -113,7 +116,7 @@ pub trait BlockStep {
         requires { MayTake (stands self.old) (kind self.old) port t }
         ensures same_kind { kind self.new ≡ kind self.old }
         ensures same_refusal { may_refuse self.new ≡ may_refuse self.old }
-        ensures moved { IfOk result (λ _. (s : Streams) (n : ℕ) → stands self.old s n → slice_get (moves (kind self.old) s) n ≡ Some (Taking port t) → stands self.new s (n + 1)) }
+        ensures moved { IfOk result (λ _. StandsAfterTake (stands self.old) (stands self.new) (kind self.old) port t) }
         ensures refused { IfErr result (λ _. self.new ≡ self.old) }
         ensures sure { may_refuse self.old ≡ false → IsOk result };
 
@@ -122,7 +125,7 @@ pub trait BlockStep {
         requires { MayPut (stands self.old) (kind self.old) }
         ensures same_kind { kind self.new ≡ kind self.old }
         ensures same_refusal { may_refuse self.new ≡ may_refuse self.old }
-        ensures moved { (s : Streams) (n : ℕ) (port : ℕ) (t : Token) → stands self.old s n → slice_get (moves (kind self.old) s) n ≡ Some (Putting port t) → stands self.new s (n + 1) };
+        ensures moved { StandsAfterPut (stands self.old) (stands self.new) (kind self.old) };
 
     /// Some moves, one after another, at most so many. The answer says whether there was one.
     fn burst<P: Ports>(&mut self, ports: &mut P, most: u32) -> Result<bool, AllocError>
@@ -179,7 +182,14 @@ pub trait BlockStep {
 }
 
 /// The moves of each kind take exactly its whole inputs and put exactly its whole outputs, in order port by port. They
-/// are as many as all those streams have tokens, and the wish is Finished exactly where all streams are through.
+/// are as many as all those streams have tokens, and the wish is Finished exactly where all streams are through. There
+/// are as many inputs and outputs as the kind says, and each move is on one of them.
 pub fn moves_pass()
-    ensures { (kind : Kind) (ins : Streams) → Fits kind ins → Passes ins (moves kind ins) (outputs kind ins) }
+    ensures passes { (kind : Kind) (ins : Streams) → Fits kind ins → Passes ins (moves kind ins) (outputs kind ins) }
+    ensures all_inputs { (kind : Kind) (ins : Streams) → Fits kind ins → length ins ≡ ins_of kind }
+    ensures all_outputs { (kind : Kind) (ins : Streams) → length (outputs kind ins) ≡ outs_of kind }
+    ensures takes_on_inputs { (kind : Kind) (ins : Streams) (n port : ℕ) (t : Token)
+        → Fits kind ins → slice_get (moves kind ins) n ≡ Some (Taking port t) → port < ins_of kind }
+    ensures puts_on_outputs { (kind : Kind) (ins : Streams) (n port : ℕ) (t : Token)
+        → Fits kind ins → slice_get (moves kind ins) n ≡ Some (Putting port t) → port < outs_of kind }
 {}

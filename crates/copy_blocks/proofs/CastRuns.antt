@@ -11,7 +11,7 @@ use Rattle.block_core.specs.Ports.{Streams, AllStreams, port}
 use Rattle.block_core.specs.Kind.{CastKind, Fits}
 use Rattle.block_core.specs.Runs.{Runs}
 use Rattle.block_core.specs.Stands.{Stands}
-use Rattle.block_core.proofs.Standing.{stands_start}
+use Rattle.block_core.proofs.Standing.{stands-start}
 use Rattle.copy_blocks.specs.CastSteps.{cast_steps, cast_put, after_token}
 use Rattle.copy_blocks.specs.declared.cast.CastState.{CastState}
 use Rattle.copy_blocks.specs.declared.cast.CastState.TheVariants.{Wanting, Giving, Ended}
@@ -54,4 +54,4 @@ cast_run outs (Done ∷ s) e = (refl, took_run outs Done _ (subst (λ (x : List 
 pub cast_starts : (outs : ℕ) (s : Streams) → Fits (CastKind outs) s → Stands (Runs (cast_steps outs) Wanting) (CastKind outs) s 0
 cast_starts outs s f =
     let whole : AllStreams (port 0 s ∷ []) = subst AllStreams (sym f.back) f.streams in
-    stands_start (cast_steps outs) Wanting (CastKind outs) s f (cast_run outs (port 0 s) (IsStream-ends (port 0 s) whole.0))
+    stands-start (cast_steps outs) Wanting (CastKind outs) s f (cast_run outs (port 0 s) (IsStream-ends (port 0 s) whole.0))

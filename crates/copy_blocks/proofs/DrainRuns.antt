@@ -8,7 +8,7 @@ use Rattle.block_core.specs.Ports.{Streams, AllStreams, port}
 use Rattle.block_core.specs.Kind.{DrainKind, Fits}
 use Rattle.block_core.specs.Runs.{Runs}
 use Rattle.block_core.specs.Stands.{Stands}
-use Rattle.block_core.proofs.Standing.{stands_start}
+use Rattle.block_core.proofs.Standing.{stands-start}
 use Rattle.copy_blocks.specs.DrainSteps.{drain_steps}
 use Rattle.copy_blocks.specs.declared.sink.DrainState.TheVariants.{Wanting, Ended}
 
@@ -22,4 +22,4 @@ drain_run (Done ∷ s) e = (refl, subst (λ (x : List Token). Runs drain_steps E
 pub drain_starts : (s : Streams) → Fits DrainKind s → Stands (Runs drain_steps Wanting) DrainKind s 0
 drain_starts s f =
     let whole : AllStreams (port 0 s ∷ []) = subst AllStreams (sym f.back) f.streams in
-    stands_start drain_steps Wanting DrainKind s f (drain_run (port 0 s) (IsStream-ends (port 0 s) whole.0))
+    stands-start drain_steps Wanting DrainKind s f (drain_run (port 0 s) (IsStream-ends (port 0 s) whole.0))

@@ -7,7 +7,7 @@ use Rattle.block_core.specs.Ports.{Streams}
 use Rattle.block_core.specs.Kind.{RepeatKind, Fits, reading}
 use Rattle.block_core.specs.Runs.{Runs}
 use Rattle.block_core.specs.Stands.{Stands}
-use Rattle.block_core.proofs.Standing.{stands_start}
+use Rattle.block_core.proofs.Standing.{stands-start}
 use Rattle.copy_blocks.specs.RepeatSteps.{repeat_steps}
 use Rattle.copy_blocks.specs.declared.repeat.RepeatState.TheVariants.{Outer, Inner}
 
@@ -31,4 +31,4 @@ repeat_run (([], n) ∷ fs) = (refl, (refl, (refl, repeat_run fs)))
 repeat_run (((m ∷ ms), n) ∷ fs) = fiber_run n m.0 m.1 ms (repeat_moves fs) (repeat_run fs)
 
 pub repeat_starts : (s : Streams) → Fits RepeatKind s → Stands (Runs repeat_steps Outer) RepeatKind s 0
-repeat_starts s f = stands_start repeat_steps Outer RepeatKind s f (repeat_run (reading RepeatKind s))
+repeat_starts s f = stands-start repeat_steps Outer RepeatKind s f (repeat_run (reading RepeatKind s))

@@ -6,7 +6,7 @@ ghost use Rattle.block_core.specs.Ports.{Streams};
 ghost use Rattle.block_core.specs.Kind.{RepeatKind, Fits, moves};
 ghost use Rattle.block_core.specs.Stands.{Stands};
 ghost use Rattle.block_core.specs.Runs.{Runs};
-ghost use Rattle.block_core.proofs.Unique.{same_wish};
+ghost use Rattle.block_core.proofs.Unique.{same-wish};
 ghost use Rattle.copy_blocks.specs.RepeatSteps.{repeat_steps};
 
 use block_core::{BlockStep, Wish};
@@ -147,5 +147,5 @@ impl BlockStep for Repeater {
 
     ghost stands_within = { λ b s n h. h.within };
 
-    ghost agrees = { λ b s r n h k a. same_wish _ _ n (moves RepeatKind s) (moves RepeatKind r) h.rest k.rest a };
+    ghost agrees = { λ b s r n h k a. same-wish _ _ n (moves RepeatKind s) (moves RepeatKind r) h.rest k.rest a };
 }

@@ -10,7 +10,7 @@ use Rattle.stream_tokens.specs.declared.Token.{Token}
 use Rattle.stream_tokens.specs.declared.Token.TheVariants.{Item}
 use Rattle.stream_tokens.specs.Nest.{IsStream}
 use Rattle.stream_tokens.specs.Flat.{flat}
-use Rattle.block_core.specs.Change.{on_item, value_at as value_in}
+use Rattle.block_core.specs.Change.{on_item, referenced_value as value_in}
 use Rattle.block_core.specs.Kind.{ArrayKind}
 use Rattle.block_core.proofs.Given.{Gives, array-gives}
 use Rattle.stream_model.specs.declared.labels.Attr.TheVariants.{Rank, FactorValue}

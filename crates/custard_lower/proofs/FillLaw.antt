@@ -32,8 +32,8 @@ use Rattle.block_core.specs.DropFiber.{is_nonempty}
 use Rattle.block_core.specs.Kind.{FillKind}
 use Rattle.block_core.proofs.FillReadings.{contents}
 use Rattle.block_core.proofs.FillGiven.{laid, fill-gives}
-use Rattle.block_core.proofs.Laid.{tokens_of, marked_by, side_list, laid-under, present-side, contents-under}
-use Rattle.block_core.proofs.MergeReadings.{over_ext}
+use Rattle.block_core.proofs.Laid.{all_elements, marked_by, side_list, laid-under, present-side, contents-under}
+use Rattle.block_core.proofs.MergeReadings.{over-ext}
 use Rattle.block_core.proofs.Given.{Gives}
 use Rattle.custard_lower.proofs.Following.{paths-positive, gives-written}
 use Rattle.custard_lower.proofs.DropLaws.{some-left}
@@ -110,7 +110,7 @@ module _ (sizes : List ℕ) (ss : List Summand) (n : ℕ) (side : Side) (e : ℕ
 
   -- which these are
   abbrev sided : List (List ℕ)
-  sided = filter part.has (tokens_of outer)
+  sided = filter part.has (all_elements outer)
 
   -- what x tells of each prefix that the side has after p
   abbrev told : (List ℕ → ℕ) → List ℕ → List ℕ
@@ -183,7 +183,7 @@ module _ (sizes : List ℕ) (ss : List Summand) (n : ℕ) (side : Side) (e : ℕ
       (columns (λ p. flat Item (under (told (x p)) outer)) 0 (suc payloads))
   fill_ports payloads x wide w s =
       subst (Gives (FillKind payloads) _)
-      (over_ext (λ p. flat Item (laid presence (contents (port p)))) (λ p. flat Item (under (told (x p)) outer)) 0 0
+      (over-ext (λ p. flat Item (laid presence (contents (port p)))) (λ p. flat Item (under (told (x p)) outer)) 0 0
       (suc payloads)
       (λ i b. ap (flat Item) (ap (laid presence) (port_contents (wide (0 + i)) (w (0 + i)) (x (0 + i))) ∙ port_laid (x (0 + i)))))
       (fill-gives payloads presence port (map (λ p. length (next part.has sizes p)) sided)

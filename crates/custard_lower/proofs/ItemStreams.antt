@@ -5,7 +5,7 @@ use Rattle.std.proofs.Common.{◌∙◌, ap, subst}
 use Rattle.stream_tokens.specs.declared.Token.{Token}
 use Rattle.stream_tokens.specs.declared.Token.TheVariants.{Item}
 use Rattle.stream_tokens.specs.Nest.{Fiber}
-use Rattle.stream_tokens.specs.Flat.{written, closed, flat}
+use Rattle.stream_tokens.specs.Flat.{fiber_tokens, closed, flat}
 use Rattle.stream_tokens.specs.Shapes.{Each, EachToken}
 use Rattle.stream_tokens.proofs.Algebra.{Each-imp}
 use Rattle.block_core.specs.Ports.{Streams}
@@ -26,7 +26,7 @@ EachToken-imp P Q h (f ∷ fs) e = (Each-imp P Q h f.0 e.0, EachToken-imp P Q h 
 
 written_ext : {A : Type 0} (Q : A → Type 0) (f g : A → Token) → ((x : A) → Q x → f x ≡ g x) → (xs : List A) → Each Q xs
     → (rest : List Token)
-    → written f xs rest ≡ written g xs rest
+    → fiber_tokens f xs rest ≡ fiber_tokens g xs rest
 written_ext Q f g h [] e rest = refl
 written_ext Q f g h (x ∷ xs) e rest = rw (h x e.0, written_ext Q f g h xs e.1 rest) refl
 
@@ -37,14 +37,14 @@ pub flat-ext : {A : Type 0} (Q : A → Type 0) (f g : A → Token) → ((x : A) 
 flat-ext Q f g h [] e = refl
 flat-ext Q f g h (x ∷ fs) e =
     written_ext Q f g h x.0 e.0 (closed x.1 (flat f fs))
-    ∙ ap (λ (s : List Token). written g x.0 (closed x.1 s)) (flat-ext Q f g h fs e.1)
+    ∙ ap (λ (s : List Token). fiber_tokens g x.0 (closed x.1 s)) (flat-ext Q f g h fs e.1)
 
 closed_items : (h : ℕ → ℕ) (n : ℕ) (rest : List Token) → map (on_item h) (closed n rest) ≡ closed n (map (on_item h) rest)
 closed_items h zero rest = refl
 closed_items h (suc k) rest = refl
 
 written_items : {A : Type 0} (h : ℕ → ℕ) (x : A → ℕ) (xs : List A) (rest : List Token)
-    → map (on_item h) (written (λ a. Item (x a)) xs rest) ≡ written (λ a. Item (h (x a))) xs (map (on_item h) rest)
+    → map (on_item h) (fiber_tokens (λ a. Item (x a)) xs rest) ≡ fiber_tokens (λ a. Item (h (x a))) xs (map (on_item h) rest)
 written_items h x [] rest = refl
 written_items h x (a ∷ xs) rest = ap (λ (s : List Token). Item (h (x a)) ∷ s) (written_items h x xs rest)
 
@@ -54,14 +54,14 @@ pub changed : {A : Type 0} (h : ℕ → ℕ) (x : A → ℕ) (fs : List (Fiber A
 changed h x [] = refl
 changed h x (f ∷ fs) =
     written_items h x f.0 (closed f.1 (flat (λ a. Item (x a)) fs))
-    ∙ ap (written (λ a. Item (h (x a))) f.0) (closed_items h f.1 (flat (λ a. Item (x a)) fs) ∙ ap (closed f.1) (changed h x fs))
+    ∙ ap (fiber_tokens (λ a. Item (h (x a))) f.0) (closed_items h f.1 (flat (λ a. Item (x a)) fs) ∙ ap (closed f.1) (changed h x fs))
 
 closed_below : (m n : ℕ) (rest : List Token) → ItemsBelow m rest → ItemsBelow m (closed n rest)
 closed_below m zero rest h = h
 closed_below m (suc k) rest h = h
 
 written_below : {A : Type 0} (m : ℕ) (x : A → ℕ) (xs : List A) (rest : List Token) → Each (λ a. x a < m) xs → ItemsBelow m rest
-    → ItemsBelow m (written (λ a. Item (x a)) xs rest)
+    → ItemsBelow m (fiber_tokens (λ a. Item (x a)) xs rest)
 written_below m x [] rest e h = h
 written_below m x (a ∷ xs) rest e h = (e.0, written_below m x xs rest e.1 h)
 

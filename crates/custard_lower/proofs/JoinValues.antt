@@ -4,7 +4,7 @@ use Rattle.std.specs.Prelude.{◌≡◌, ◌<◌, ◌≤◌, ℕ, ◌-◌, ◌^�
 use Rattle.std.proofs.Common.{arith, sym, ◌∙◌, ap, subst}
 use Rattle.std.proofs.Math.Nat.{add-mod-mod}
 use Rattle.stream_tokens.specs.Nest.{Leaf}
-use Rattle.block_core.specs.Arithmetic.{Operation, Plus, Minus, combine}
+use Rattle.block_core.specs.Arithmetic.{Operation, Plus, Minus, combined_leaf}
 use Rattle.block_core.specs.Kind.{UnionKind, AluKind}
 use Rattle.block_core.proofs.Given.{Gives}
 use Rattle.stream_model.specs.declared.labels.Side.{Side}
@@ -32,7 +32,7 @@ there_alone (Some v) false e = absurd (cc)
 -- ---- the terms up to number n, joined
 
 -- a difference adds what is negated
-minus_negated : (a b : Leaf) → combine Minus a b ≡ plus_there a (negated b)
+minus_negated : (a b : Leaf) → combined_leaf Minus a b ≡ plus_there a (negated b)
 minus_negated None None = refl
 minus_negated None (Some b) = refl
 minus_negated (Some a) None = refl
@@ -42,13 +42,13 @@ minus_negated (Some a) (Some b) = ap (λ (v : ℕ). Some v) (sym (add-mod-mod a 
 abbrev pub joining : Bool → Operation
 joining minus = cond minus Minus Plus
 
-joining_is : (minus : Bool) (a b : Leaf) → combine (joining minus) a b ≡ plus_there a (cond minus (negated b) b)
+joining_is : (minus : Bool) (a b : Leaf) → combined_leaf (joining minus) a b ≡ plus_there a (cond minus (negated b) b)
 joining_is true a b = minus_negated a b
 joining_is false a b = plus-combined a b
 
 -- the value of a join, from those of its sides
 pub joined-combined : (ss : List Summand) (n : ℕ) → n < length ss → (p : List ℕ)
-    → combine (joining (summand_at ss n).minus) ((side_part ss n Left).value p) ((side_part ss n Right).value p)
+    → combined_leaf (joining (summand_at ss n).minus) ((side_part ss n Left).value p) ((side_part ss n Right).value p)
     ≡ (join_upto ss n).value p
 joined-combined ss n inside p =
     joining_is (summand_at ss n).minus ((side_part ss n Left).value p) ((side_part ss n Right).value p)

@@ -5,7 +5,7 @@ use Rattle.std.proofs.Common.{arith, inr, sym, ◌∙◌, ap, subst}
 use Rattle.stream_tokens.specs.declared.Token.{Token}
 use Rattle.stream_tokens.specs.declared.Token.TheVariants.{Done}
 use Rattle.stream_tokens.specs.Nest.{Leaf, leaf}
-use Rattle.block_core.specs.Arithmetic.{Operation, Plus, Minus, combine}
+use Rattle.block_core.specs.Arithmetic.{Operation, Plus, Minus, combined_leaf}
 use Rattle.block_core.specs.Kind.{AluKind}
 use Rattle.block_core.proofs.Given.{Gives, alu-over}
 use Rattle.stream_model.specs.declared.labels.Side.TheVariants.{Left}
@@ -22,7 +22,7 @@ use Rattle.custard_lower.proofs.JoinValues.{joining, joined-combined}
 abbrev alone : Leaf → List Token
 alone x = leaf x ∷ Done ∷ []
 
-alone_gives : (op : Operation) (x y z : Leaf) → combine op x y ≡ z → Gives (AluKind op) (alone x ∷ alone y ∷ []) (alone z ∷ [])
+alone_gives : (op : Operation) (x y z : Leaf) → combined_leaf op x y ≡ z → Gives (AluKind op) (alone x ∷ alone y ∷ []) (alone z ∷ [])
 alone_gives op x y z e =
     gives-same (AluKind op) _ _ _ _ refl (ap (λ (o : Leaf). alone o ∷ []) e)
     (alu-over op (λ (u : Unit {0}). x) (λ u. y) ((tt ∷ [], 0) ∷ []) (inr (tt, refl))
@@ -58,7 +58,7 @@ module _ (ss : List Summand) (n : ℕ) (later : 0 < n) (inside : n < length ss) 
       let op : Operation = joining (summand_at ss n).minus in
       let own : Leaf = value_term (summand_at ss n).term [] in
       alone_gives op ((join_upto ss (n - 1)).value []) own ((join_upto ss n).value [])
-      (ap (λ (o : Leaf). combine op o own) value_before ∙ joined-combined ss n inside [])
+      (ap (λ (o : Leaf). combined_leaf op o own) value_before ∙ joined-combined ss n inside [])
 
   -- the values of the terms before one and its own give theirs together by a sum, where it is added
   pub sum-alone : (summand_at ss n).minus ≡ false

@@ -20,9 +20,9 @@ use Rattle.sam_model.proofs.Lists.{map-ext, filter-never}
 use Rattle.stream_model.proofs.Reduced.{reduced-closed}
 use Rattle.stream_model.proofs.Streams.{stream_at-IsStream}
 use Rattle.block_core.specs.Ports.{first_item, second_leaf, second}
-use Rattle.block_core.specs.Arithmetic.{combine, Plus}
+use Rattle.block_core.specs.Arithmetic.{combined_leaf, Plus}
 use Rattle.block_core.specs.Gather.{gather}
-use Rattle.block_core.specs.SumMatrix.{MatrixRow, join, row_sum, matrix_sum}
+use Rattle.block_core.specs.SumMatrix.{MatrixRow, append_pairs, row_sum, matrix_sum}
 use Rattle.block_core.specs.Kind.{SumMatrixKind}
 use Rattle.block_core.proofs.Given.{Gives, summatrix-over}
 use Rattle.custard_lower.proofs.Following.{paths-positive, followers, followers-beneath, coordinates-follow, values-follow, gives-written}
@@ -33,12 +33,12 @@ use Rattle.custard_lower.proofs.SummedRows.{coordinates_of_loop, over_loop, rows
 
 -- ---- lists in a row as sums
 
-join_adds : Adds join []
+join_adds : Adds append_pairs []
 join_adds = record { left = λ xs. refl; right = λ xs. append-nil xs; regroups = λ xs ys zs. append_assoc xs ys zs }
 
-joined_all : (f : ℕ → List (ℕ × Leaf)) (cs : List ℕ) → sum_all join [] (map f cs) ≡ flat_map f cs
+joined_all : (f : ℕ → List (ℕ × Leaf)) (cs : List ℕ) → sum_all append_pairs [] (map f cs) ≡ flat_map f cs
 joined_all f [] = refl
-joined_all f (c ∷ cs) = ap (join (f c)) (joined_all f cs)
+joined_all f (c ∷ cs) = ap (append_pairs (f c)) (joined_all f cs)
 
 -- ---- the streams of two levels
 
@@ -90,23 +90,23 @@ module _ (t : TermData) (g : ℕ) where
 module _ (t : TermData) (before : List Loop) (s : ℕ) (after : List Loop) (g : ℕ) (r : Reduces t before s after g) where
   -- what follows a after p and a coordinate of the loop, for all of these in a row
   abbrev joined : List ℕ → ℕ → List (ℕ × Leaf)
-  joined p a = over_loop t before s after g r join [] (inner t g) p (a ∷ [])
+  joined p a = over_loop t before s after g r append_pairs [] (inner t g) p (a ∷ [])
 
   joined_sum : (p : List ℕ) (a : ℕ) → length p ≡ length before
-      → gather (combine Plus) (joined p a) ≡ inner t (suc g) ((p ++ []) ++ a ∷ [])
+      → gather (combined_leaf Plus) (joined p a) ≡ inner t (suc g) ((p ++ []) ++ a ∷ [])
   joined_sum p a h =
-      ap (gather (combine Plus)) (joined_all (λ c. inner t g (p ++ c ∷ a ∷ [])) (coordinates_of_loop t before s after g r p))
+      ap (gather (combined_leaf Plus)) (joined_all (λ c. inner t g (p ++ c ∷ a ∷ [])) (coordinates_of_loop t before s after g r p))
       ∙ values-gathered t before s after g r p (a ∷ []) h
       ∙ ap (inner t (suc g)) (sym (append_assoc p [] (a ∷ [])))
 
   -- beneath a prefix of the loops before
   rows_summed : (p : List ℕ) → length p ≡ length before
-      → map row_sum (gather join (flat_map (λ c. rows t g (p ++ c ∷ [])) (coordinates_of_loop t before s after g r p)))
+      → map row_sum (gather append_pairs (flat_map (λ c. rows t g (p ++ c ∷ [])) (coordinates_of_loop t before s after g r p)))
       ≡ rows t (suc g) p
   rows_summed p h =
-      ap (map row_sum) (rows-gathered t before s after g r join [] join_adds (inner t g) (inner_absent t g) p [] h)
+      ap (map row_sum) (rows-gathered t before s after g r append_pairs [] join_adds (inner t g) (inner_absent t g) p [] h)
       ∙ map-map row_sum (λ a. (a, joined p a)) outer
-      ∙ map-ext (λ a. (a, gather (combine Plus) (joined p a))) (λ a. (a, inner t (suc g) ((p ++ []) ++ a ∷ [])))
+      ∙ map-ext (λ a. (a, gather (combined_leaf Plus) (joined p a))) (λ a. (a, inner t (suc g) ((p ++ []) ++ a ∷ [])))
       (λ a. ap (λ (ps : List (ℕ × Leaf)). (a, ps)) (joined_sum p a h)) outer
       ∙ ap (rows t (suc g)) (append-nil p)
     where
@@ -124,7 +124,7 @@ module _ (t : TermData) (before : List Loop) (s : ℕ) (after : List Loop) (g : 
   sums_are =
       reduced-pieces t before s after g r matrix_sum refl (rows t g) (rows t (suc g))
       (λ p h.
-      ap (λ (ms : List MatrixRow). map row_sum (gather join ms)) (row-of-pieces t before s after g r (rows t g) p h)
+      ap (λ (ms : List MatrixRow). map row_sum (gather append_pairs ms)) (row-of-pieces t before s after g r (rows t g) p h)
       ∙ rows_summed p h)
 
   -- A matrix reducer gives the coordinates and the values of the tree without the loop.

@@ -15,7 +15,7 @@ use Rattle.stream_model.specs.Labels.{reduced_shape, stream_at}
 use Rattle.stream_model.specs.Reduction.{Reduces}
 use Rattle.stream_model.proofs.Streams.{stream_at-IsStream}
 use Rattle.block_core.specs.Ports.{first_item, second_leaf}
-use Rattle.block_core.specs.Arithmetic.{combine, Plus}
+use Rattle.block_core.specs.Arithmetic.{combined_leaf, Plus}
 use Rattle.block_core.specs.Gather.{gather}
 use Rattle.block_core.specs.SumVector.{vector_sum}
 use Rattle.block_core.specs.Kind.{SumVectorKind}
@@ -57,7 +57,7 @@ module _ (t : TermData) (before : List Loop) (s : ℕ) (after : List Loop) (g : 
   sums_are =
       reduced-pieces t before s after g r vector_sum refl (rows t g) (rows t (suc g))
       (λ p h.
-      ap (gather (combine Plus)) (row-of-pieces t before s after g r (rows t g) p h)
+      ap (gather (combined_leaf Plus)) (row-of-pieces t before s after g r (rows t g) p h)
       ∙ values-gathered t before s after g r p [] h
       ∙ ap (rows t (suc g)) (append-nil p))
 

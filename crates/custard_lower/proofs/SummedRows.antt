@@ -16,7 +16,7 @@ use Rattle.stream_model.specs.Trees.{in_reduced, value_reduced, reduced_sizes}
 use Rattle.stream_model.specs.Reduction.{Reduces}
 use Rattle.sam_model.proofs.Lists.{map-ext, flat_map-ext}
 use Rattle.stream_model.proofs.Grown.{InTree, path_fibers-suc, paths-InTree}
-use Rattle.block_core.specs.Arithmetic.{combine, Plus}
+use Rattle.block_core.specs.Arithmetic.{combined_leaf, Plus}
 use Rattle.block_core.specs.Gather.{gather, all_of}
 use Rattle.custard_lower.proofs.Following.{followers}
 use Rattle.custard_lower.proofs.Loops.{size-reduced, size-beneath}
@@ -86,15 +86,15 @@ module _ (t : TermData) (before : List Loop) (s : ℕ) (after : List Loop) (g : 
 
   -- so the values are those of the tree without the loop
   pub values-gathered : (p q : List ℕ) → length p ≡ length before
-      → gather (combine Plus) (flat_map (λ c. followers_at g (value_reduced t g) (p ++ c ∷ q)) (coordinates_of_loop p))
+      → gather (combined_leaf Plus) (flat_map (λ c. followers_at g (value_reduced t g) (p ++ c ∷ q)) (coordinates_of_loop p))
       ≡ followers_at (suc g) (value_reduced t (suc g)) (p ++ q)
   values-gathered p q h =
-      rows-gathered (combine Plus) None plus-adds (value_reduced t g) (value-absent t g) p q h
-      ∙ map-ext (λ b. (b, over_loop (combine Plus) None (value_reduced t g) p (q ++ b ∷ [])))
+      rows-gathered (combined_leaf Plus) None plus-adds (value_reduced t g) (value-absent t g) p q h
+      ∙ map-ext (λ b. (b, over_loop (combined_leaf Plus) None (value_reduced t g) p (q ++ b ∷ [])))
       (λ b. (b, value_reduced t (suc g) ((p ++ q) ++ b ∷ [])))
       (λ b. ap (λ (o : Leaf). (b, o)) (total b)) (next (in_reduced t (suc g)) (reduced_sizes t (suc g)) (p ++ q))
     where
-      total : (b : ℕ) → over_loop (combine Plus) None (value_reduced t g) p (q ++ b ∷ [])
+      total : (b : ℕ) → over_loop (combined_leaf Plus) None (value_reduced t g) p (q ++ b ∷ [])
           ≡ value_reduced t (suc g) ((p ++ q) ++ b ∷ [])
       total b =
           sum-all-combined (map (λ c. value_reduced t g (p ++ c ∷ (q ++ b ∷ []))) (coordinates_of_loop p))

@@ -11,13 +11,13 @@ use Rattle.stream_model.specs.Trees.{plus_there, sum_there, in_reduced, value_re
 use Rattle.stream_model.specs.Reduction.{Reduces}
 use Rattle.stream_model.proofs.Sums.{plus-none, plus-assoc}
 use Rattle.stream_model.proofs.Reduced.{value-split, any-split, reduced-begins, value-outside}
-use Rattle.block_core.specs.Arithmetic.{combine, Plus, sum_leaves}
+use Rattle.block_core.specs.Arithmetic.{combined_leaf, Plus, sum_leaves}
 use Rattle.custard_lower.proofs.Gathered.{Adds, sum_all}
 
 -- ---- the blocks' sums
 
 -- a block adds as the trees do
-pub plus-combined : (a b : Leaf) → combine Plus a b ≡ plus_there a b
+pub plus-combined : (a b : Leaf) → combined_leaf Plus a b ≡ plus_there a b
 plus-combined None b = refl
 plus-combined (Some a) None = refl
 plus-combined (Some a) (Some b) = refl
@@ -28,19 +28,19 @@ sum-combined [] = refl
 sum-combined (v ∷ vs) = plus-combined v (sum_leaves vs) ∙ ap (plus_there v) (sum-combined vs)
 
 -- values that may be absent can be added in any grouping
-pub plus-adds : Adds (combine Plus) None
+pub plus-adds : Adds (combined_leaf Plus) None
 plus-adds = record {
   left = λ v. refl;
   right = λ v. plus-combined v None ∙ plus-none v;
   regroups = λ a b c.
-      plus-combined (combine Plus a b) c ∙ ap (λ x. plus_there x c) (plus-combined a b) ∙ plus-assoc a b c
-      ∙ ap (plus_there a) (sym (plus-combined b c)) ∙ sym (plus-combined a (combine Plus b c));
+      plus-combined (combined_leaf Plus a b) c ∙ ap (λ x. plus_there x c) (plus-combined a b) ∙ plus-assoc a b c
+      ∙ ap (plus_there a) (sym (plus-combined b c)) ∙ sym (plus-combined a (combined_leaf Plus b c));
 }
 
 -- the same sum, said for any addition
-pub sum-all-combined : (vs : List Leaf) → sum_all (combine Plus) None vs ≡ sum_there vs
+pub sum-all-combined : (vs : List Leaf) → sum_all (combined_leaf Plus) None vs ≡ sum_there vs
 sum-all-combined [] = refl
-sum-all-combined (v ∷ vs) = plus-combined v (sum_all (combine Plus) None vs) ∙ ap (plus_there v) (sum-all-combined vs)
+sum-all-combined (v ∷ vs) = plus-combined v (sum_all (combined_leaf Plus) None vs) ∙ ap (plus_there v) (sum-all-combined vs)
 
 -- ---- over a loop that is taken away
 

@@ -11,7 +11,7 @@ use Rattle.stream_tokens.specs.Flat.{flat}
 use Rattle.stream_tokens.proofs.Fibers.{shaped-fibers}
 use Rattle.block_core.specs.Ports.{AllStreams}
 use Rattle.block_core.specs.Change.{on_item}
-use Rattle.block_core.specs.Arithmetic.{Operation, Times, combine}
+use Rattle.block_core.specs.Arithmetic.{Operation, Times, combined_leaf}
 use Rattle.block_core.specs.Kind.{RootKind, AluKind, ConstKind}
 use Rattle.block_core.proofs.Given.{Gives, gives, const-gives, alu-over}
 use Rattle.stream_model.specs.declared.labels.Attr.{Attr}
@@ -55,11 +55,11 @@ told-alike s a x h =
 
 -- two values of each prefix, and what an operation makes of them
 pub combined-gives : (op : Operation) (s : Shape) (a b c : Attr) → s.depth ≤ 200
-    → ((p : List ℕ) → combine op (token s a p) (token s b p) ≡ token s c p)
+    → ((p : List ℕ) → combined_leaf op (token s a p) (token s b p) ≡ token s c p)
     → Gives (AluKind op) (stream_at s a ∷ stream_at s b ∷ []) (stream_at s c ∷ [])
 combined-gives op s a b c h e =
     gives-same (AluKind op) _ _ _ _ (sym ins_are)
-    (ap (λ (x : List Token). x ∷ []) (told-alike s c (λ p. combine op (token s a p) (token s b p)) e))
+    (ap (λ (x : List Token). x ∷ []) (told-alike s c (λ p. combined_leaf op (token s a p) (token s b p)) e))
     (alu-over op (token s a) (token s b) (paths_of s) (shaped-fibers {A = List ℕ} s.depth (paths s.ok s.sizes s.depth))
     (subst AllStreams ins_are (stream_at-IsStream s a h, (stream_at-IsStream s b h, tt))))
   where

@@ -14,12 +14,12 @@ use Rattle.stream_tokens.specs.declared.Token.{Token}
 use Rattle.stream_tokens.specs.declared.Token.TheVariants.{Done}
 use Rattle.stream_tokens.specs.Nest.{Leaf, leaf}
 use Rattle.stream_tokens.proofs.Algebra.{map-map}
-use Rattle.block_core.specs.Written.{items_in, segs_of, crds_of, vals_of}
+use Rattle.block_core.specs.Written.{items_in, numbers_among, segs_of, crds_of, vals_of}
 use Rattle.stream_model.specs.declared.labels.Attr.TheVariants.{Value}
 use Rattle.stream_model.specs.Labels.{Shape, result_sizes, stream_at, fibers_at}
 use Rattle.stream_model.proofs.Flat.{in_order}
 use Rattle.custard_lower.proofs.WrittenLevels.{levels-in-turn, prefixes_at, level_ends, level_coordinates, tree_written, tree-range, tree-listing}
-use Rattle.custard_lower.proofs.WrittenStreams.{numbers_among, numbers-of-all, values-listed}
+use Rattle.custard_lower.proofs.WrittenStreams.{numbers-of-all, values-listed}
 
 -- the arrays are in range for r levels, and list the entries of the program's result
 abbrev pub ListsResult : Program → List Entries → ℕ → Written → Type 0

@@ -8,11 +8,12 @@ use Rattle.std.proofs.lemmas.List.{length-map}
 use Rattle.sam_model.specs.Lists.{below}
 use Rattle.stream_tokens.specs.declared.Token.{Token}
 use Rattle.stream_tokens.specs.Nest.{Leaf, leaf, Fiber}
-use Rattle.stream_tokens.specs.Flat.{written, closed, flat, fibers_of}
-use Rattle.stream_tokens.specs.Shapes.{on_tokens, under, Each, EachToken}
+use Rattle.stream_tokens.specs.Flat.{fiber_tokens, closed, flat, fibers_of}
+use Rattle.stream_tokens.specs.Shapes.{on_fibers, on_tokens, under, Each, EachToken}
 use Rattle.stream_tokens.proofs.Algebra.{map-same, on_tokens-on_tokens, Each-imp}
 use Rattle.block_core.specs.DropFiber.{is_nonempty}
-use Rattle.block_core.specs.Written.{items_in, ends_from, segs_of, crds_of, vals_of}
+use Rattle.block_core.specs.Written.{items_in, numbers_among, item_fibers, ends_from, segs_of, crds_of, vals_of}
+use Rattle.block_core.proofs.Readings.{numbers_among-on_tokens}
 use Rattle.block_core.proofs.FillReadings.{contents}
 use Rattle.block_core.proofs.Laid.{contents-under}
 use Rattle.stream_model.specs.declared.labels.Attr.TheVariants.{Coordinate, Value}
@@ -28,12 +29,6 @@ use Rattle.custard_lower.proofs.WrittenLevels.{prefixes_at, level_ends}
 
 -- ---- the numbers of a stream
 
--- the numbers among leaves
-abbrev pub numbers_among : List Leaf → List ℕ
-numbers_among [] = []
-numbers_among (None ∷ os) = numbers_among os
-numbers_among (Some n ∷ os) = n ∷ numbers_among os
-
 -- where each has one
 pub numbers-of-all : {A : Type 0} (g : A → ℕ) (xs : List A) → numbers_among (map (λ x. Some (g x)) xs) ≡ map g xs
 numbers-of-all g [] = refl
@@ -44,7 +39,7 @@ items_closed zero s = refl
 items_closed (suc k) s = refl
 
 items_fiber : (os : List Leaf) (k : ℕ) (s : List Token) (more : List Leaf) → items_in s ≡ numbers_among more
-    → items_in (written leaf os (closed k s)) ≡ numbers_among (os ++ more)
+    → items_in (fiber_tokens leaf os (closed k s)) ≡ numbers_among (os ++ more)
 items_fiber [] k s more e = items_closed k s ∙ e
 items_fiber (None ∷ os) k s more e = items_fiber os k s more e
 items_fiber (Some n ∷ os) k s more e = ap (λ (ns : List ℕ). n ∷ ns) (items_fiber os k s more e)
@@ -80,17 +75,21 @@ level_fibers s n e =
     (λ p. map-ext (λ c. last (p ++ c ∷ [])) (λ c. c) (last-longer p) (next s.ok s.sizes p) ∙ map-same (next s.ok s.sizes p))
     (path_fibers s.ok s.sizes n))
 
+level_items : (s : Shape) (n : ℕ) → s.depth ≡ suc n
+    → item_fibers (stream_at s Coordinate) ≡ under (next s.ok s.sizes) (path_fibers s.ok s.sizes n)
+level_items s n e =
+    ap (on_fibers numbers_among) (level_fibers s n e) ∙ numbers_among-on_tokens (under (next s.ok s.sizes) (path_fibers s.ok s.sizes n))
+
 -- the first level has one fiber
 pub first-ends : (s : Shape) → s.depth ≡ 1 → segs_of 1 (stream_at s Coordinate) ≡ level_ends s.ok s.sizes 0
 first-ends s e =
-    ap (λ (fs : List (Fiber Leaf)). 0 ∷ ends_from true 0 fs) (level_fibers s 0 e)
-    ∙ ap (λ (n : ℕ). 0 ∷ (0 + n) ∷ [])
-    (length-map (next s.ok s.sizes []) (λ (c : ℕ). Some c) ∙ sym (length-map (next s.ok s.sizes []) (λ (c : ℕ). c ∷ [])))
+    ap (λ (fs : List (Fiber ℕ)). 0 ∷ ends_from true 0 fs) (level_items s 0 e)
+    ∙ ap (λ (n : ℕ). 0 ∷ (0 + n) ∷ []) (sym (length-map (next s.ok s.sizes []) (λ (c : ℕ). c ∷ [])))
 
-filled_ends : (count : ℕ) (fs : List (Fiber ℕ)) → ends_from false count (on_tokens Some fs) ≡ running_ends count (contents fs)
+filled_ends : (count : ℕ) (fs : List (Fiber ℕ)) → ends_from false count fs ≡ running_ends count (contents fs)
 filled_ends count [] = refl
 filled_ends count (([], n) ∷ fs) = filled_ends count fs
-filled_ends count (((x ∷ xs), n) ∷ fs) = rw (length-map xs (λ (c : ℕ). Some c), filled_ends (count + suc (length xs)) fs) refl
+filled_ends count (((x ∷ xs), n) ∷ fs) = rw (filled_ends (count + suc (length xs)) fs) refl
 
 -- the coordinates beneath each of these prefixes, where there are any
 abbrev pub lists_beneath : (List ℕ → Bool) → List ℕ → List (List ℕ) → List (List ℕ)
@@ -100,8 +99,8 @@ lists_beneath ok sizes ps = filter is_nonempty (map (next ok sizes) ps)
 pub later-ends : (s : Shape) (n : ℕ) → s.depth ≡ suc (suc n)
     → segs_of (suc (suc n)) (stream_at s Coordinate) ≡ ends_of (lists_beneath s.ok s.sizes (prefixes_at s.ok s.sizes (suc n)))
 later-ends s n e =
-    ap (λ (first : Bool). 0 ∷ ends_from first 0 (fibers_of (stream_at s Coordinate))) (not_first n)
-    ∙ ap (λ (fs : List (Fiber Leaf)). 0 ∷ ends_from false 0 fs) (level_fibers s (suc n) e)
+    ap (λ (first : Bool). 0 ∷ ends_from first 0 (item_fibers (stream_at s Coordinate))) (not_first n)
+    ∙ ap (λ (fs : List (Fiber ℕ)). 0 ∷ ends_from false 0 fs) (level_items s (suc n) e)
     ∙ ap (λ (ends : List ℕ). 0 ∷ ends)
     (filled_ends 0 (under (next s.ok s.sizes) (path_fibers s.ok s.sizes (suc n)))
     ∙ ap (running_ends 0) (contents-under (next s.ok s.sizes) (path_fibers s.ok s.sizes (suc n))))

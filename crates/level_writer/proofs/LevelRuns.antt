@@ -1,17 +1,18 @@
 -- What a level writer keeps, from its first token on.
-use Rattle.std.proofs.Common.{◌≡◌, ◌∙◌, ℕ, suc, ◌+◌, Bool, true, false, eqb, List, [], ◌∷◌, ◌++◌, length, slice_get, map, Some, sym, ap, subst, refl, arith, append_assoc, append-nil, length-append, add-one, add-zero}
+use Rattle.std.proofs.Common.{◌≡◌, ◌∙◌, ℕ, suc, ◌+◌, Bool, true, false, eqb, List, [], ◌∷◌, ◌++◌, length, slice_get, Some, inl, sym, ap, subst, refl, arith, append_assoc, append-nil, length-append, add-one, add-zero}
 use Rattle.stream_tokens.specs.declared.Token.{Token}
 use Rattle.stream_tokens.specs.declared.Token.TheVariants.{Item, Empty, Stop, Done}
 use Rattle.stream_tokens.specs.Nest.{Fiber}
-use Rattle.stream_tokens.specs.Flat.{written, flat, fibers_of}
+use Rattle.stream_tokens.specs.Flat.{fiber_tokens, flat}
 use Rattle.stream_tokens.specs.Shapes.{Positive}
 use Rattle.block_core.specs.Move.{Move, Taking, Putting, takes}
 use Rattle.block_core.specs.Ports.{Streams, port, numbers_of}
 use Rattle.block_core.specs.Cast.{drain_moves}
 use Rattle.block_core.specs.Kind.{Fits, WriteLevelKind, moves}
-use Rattle.block_core.specs.Written.{items_in, ends_from, segs_of, crds_of}
+use Rattle.block_core.specs.Written.{items_in, item_fibers, ends_from, segs_of, crds_of}
 use Rattle.block_core.specs.Stands.{Stands}
-use Rattle.block_core.proofs.Standing.{stands_step}
+use Rattle.block_core.proofs.Readings.{item_fibers-flat}
+use Rattle.block_core.proofs.Standing.{stands-step}
 use Rattle.level_writer.specs.WriterSteps.{writer_took}
 use Rattle.level_writer.specs.Kept.{filled_by, ends_after, KeepsLevel}
 use Rattle.stream_tokens.proofs.Ending.{EndsWithin}
@@ -59,7 +60,7 @@ pub level_take : (level level' : ℕ) (segs segs' crds crds' : List ℕ) (filled
     → Stands (KeepsLevel level' segs' crds' filled' ended' (port 0 s)) (WriteLevelKind level') s (n + 1)
 level_take level level' segs segs' crds crds' filled filled' ended ended' s n p t l g c f e at h =
     rw (l, g, c, f, e)
-    (stands_step (KeepsLevel level segs crds filled ended (port 0 s)) _ (WriteLevelKind level) s n (Taking p t)
+    (stands-step (KeepsLevel level segs crds filled ended (port 0 s)) _ (WriteLevelKind level) s n (Taking p t)
     (level_taken level segs crds filled ended (port 0 s) p t) at h)
 
 level_passed : (level : ℕ) (segs crds : List ℕ) (filled ended : Bool) (s : List Token) (p : ℕ) (t : Token) (rest : List Move)
@@ -71,23 +72,14 @@ pub level_put : (level : ℕ) (segs crds : List ℕ) (filled ended : Bool) (s : 
     → Stands (KeepsLevel level segs crds filled ended (port 0 s)) (WriteLevelKind level) s n
     → Stands (KeepsLevel level segs crds filled ended (port 0 s)) (WriteLevelKind level) s (n + 1)
 level_put level segs crds filled ended s n p t at h =
-    stands_step (KeepsLevel level segs crds filled ended (port 0 s)) (KeepsLevel level segs crds filled ended (port 0 s)) (WriteLevelKind level) s n (Putting p t)
+    stands-step (KeepsLevel level segs crds filled ended (port 0 s)) (KeepsLevel level segs crds filled ended (port 0 s)) (WriteLevelKind level) s n (Putting p t)
     (level_passed level segs crds filled ended (port 0 s) p t) at h
 
 -- ---- the whole stream
 
--- a fiber is read back
-fiber_read : (xs : List ℕ) (k : ℕ) (t : List Token) → fibers_of (written Item xs (Stop k ∷ t)) ≡ (map (λ x. Some x) xs, suc k) ∷ fibers_of t
-fiber_read [] k t = refl
-fiber_read (x ∷ xs) k t = rw (fiber_read xs k t) refl
-
-length_marked : (xs : List ℕ) → length (map (λ (x : ℕ). Some x) xs) ≡ length xs
-length_marked [] = refl
-length_marked (x ∷ xs) = ap (λ n. suc n) (length_marked xs)
-
 -- a fiber with an item before
 fiber_ends : (first : Bool) (count k : ℕ) (xs : List ℕ) (t : List Token)
-    → ends_after first true count (written Item xs (Stop k ∷ t)) ≡ (count + length xs) ∷ ends_after first false (count + length xs) t
+    → ends_after first true count (fiber_tokens Item xs (Stop k ∷ t)) ≡ (count + length xs) ∷ ends_after first false (count + length xs) t
 fiber_ends first count k [] t = rw add-zero refl
 fiber_ends first count k (x ∷ xs) t =
     let e : suc count + length xs ≡ count + suc (length xs) = omega arith in
@@ -95,22 +87,21 @@ fiber_ends first count k (x ∷ xs) t =
 
 -- the next fiber, where the fibers fs after it are as they should
 next_ends : (first : Bool) (count k : ℕ) (xs : List ℕ) (fs : List (Fiber ℕ))
-    → ((m : ℕ) → ends_after first false m (flat Item fs) ≡ ends_from first m (fibers_of (flat Item fs)))
-    → ends_after first false count (flat Item ((xs, suc k) ∷ fs)) ≡ ends_from first count (fibers_of (flat Item ((xs, suc k) ∷ fs)))
+    → ((m : ℕ) → ends_after first false m (flat Item fs) ≡ ends_from first m fs)
+    → ends_after first false count (flat Item ((xs, suc k) ∷ fs)) ≡ ends_from first count ((xs, suc k) ∷ fs)
 next_ends true count k [] fs h = rw add-zero (ap (λ (x : List ℕ). count ∷ x) (h count))
 next_ends false count k [] fs h = h count
 next_ends true count k (x ∷ xs) fs h =
     let e : suc count + length xs ≡ count + suc (length xs) = omega arith in
-    rw (fiber_read xs k (flat Item fs), length_marked xs, fiber_ends true (suc count) k xs (flat Item fs), e, h (count + suc (length xs))) refl
+    rw (fiber_ends true (suc count) k xs (flat Item fs), e, h (count + suc (length xs))) refl
 next_ends false count k (x ∷ xs) fs h =
     let e : suc count + length xs ≡ count + suc (length xs) = omega arith in
-    rw (fiber_read xs k (flat Item fs), length_marked xs, fiber_ends false (suc count) k xs (flat Item fs), e, h (count + suc (length xs))) refl
+    rw (fiber_ends false (suc count) k xs (flat Item fs), e, h (count + suc (length xs))) refl
 
-whole_ends : (first : Bool) (count : ℕ) (fs : List (Fiber ℕ)) → Positive fs
-    → ends_after first false count (flat Item fs) ≡ ends_from first count (fibers_of (flat Item fs))
+whole_ends : (first : Bool) (count : ℕ) (fs : List (Fiber ℕ)) → Positive fs → ends_after first false count (flat Item fs) ≡ ends_from first count fs
 whole_ends first count [] h = refl
 whole_ends first count ((xs, n) ∷ fs) h =
-    let P : ℕ → Type 0 = λ m. ends_after first false count (flat Item ((xs, m) ∷ fs)) ≡ ends_from first count (fibers_of (flat Item ((xs, m) ∷ fs))) in
+    let P : ℕ → Type 0 = λ m. ends_after first false count (flat Item ((xs, m) ∷ fs)) ≡ ends_from first count ((xs, m) ∷ fs) in
     subst P (sym h.0.1) (next_ends first count h.0.0 xs fs (λ m. whole_ends first m fs h.1))
 
 pub level_start : (level : ℕ) (s : Streams) → Fits (WriteLevelKind level) s
@@ -121,8 +112,10 @@ level_start level s f =
     let ends : EndsWithin 200 (flat Item fs) = subst (λ (t : List Token). EndsWithin 200 t) (sym e) (input_ends s (flat Item fs) f.back f.streams) in
     let taken : takes 0 (drain_moves (flat Item fs)) ≡ port 0 s = drain_takes (flat Item fs) ∙ e in
     let first = eqb level 1 in
-    let P : List Token → Type 0 = λ t. ends_after first false 0 t ≡ ends_from first 0 (fibers_of t) in
-    let whole : ends_after first false 0 (port 0 s) ≡ ends_from first 0 (fibers_of (port 0 s)) = subst P e (whole_ends first 0 fs f.well) in
+    let P : List Token → Type 0 = λ t. ends_after first false 0 t ≡ ends_from first 0 (item_fibers t) in
+    let written : ends_after first false 0 (flat Item fs) ≡ ends_from first 0 (item_fibers (flat Item fs)) =
+        whole_ends first 0 fs f.well ∙ ap (ends_from first 0) (sym (item_fibers-flat fs (inl f.well))) in
+    let whole : ends_after first false 0 (port 0 s) ≡ ends_from first 0 (item_fibers (port 0 s)) = subst P e written in
     record {
       fits = f;
       within = omega arith;

@@ -11,7 +11,7 @@ use Rattle.block_core.specs.Kind.{Fits, WriteValueKind, moves}
 use Rattle.block_core.specs.Written.{items_in, vals_of}
 use Rattle.block_core.specs.Runs.{Runs}
 use Rattle.block_core.specs.Stands.{Stands}
-use Rattle.block_core.proofs.Standing.{stands_step}
+use Rattle.block_core.proofs.Standing.{stands-step}
 use Rattle.level_writer.specs.WriterSteps.{writer_wants, writer_took, writer_steps}
 use Rattle.level_writer.specs.Kept.{KeepsValues}
 
@@ -72,7 +72,7 @@ pub values_take : (vals vals' : List ℕ) (ended ended' : Bool) (s : Streams) (n
     → Stands (KeepsValues vals ended (port 0 s)) WriteValueKind s n
     → Stands (KeepsValues vals' ended' (port 0 s)) WriteValueKind s (n + 1)
 values_take vals vals' ended ended' s n p t e d at h =
-    stands_step (KeepsValues vals ended (port 0 s)) (KeepsValues vals' ended' (port 0 s)) WriteValueKind s n (Taking p t)
+    stands-step (KeepsValues vals ended (port 0 s)) (KeepsValues vals' ended' (port 0 s)) WriteValueKind s n (Taking p t)
     (λ rest k. rw (e, d) (values_taken vals ended (port 0 s) p t rest k)) at h
 
 values_passed : (vals : List ℕ) (ended : Bool) (s : List Token) (p : ℕ) (t : Token) (rest : List Move)
@@ -84,5 +84,5 @@ pub values_put : (vals : List ℕ) (ended : Bool) (s : Streams) (n p : ℕ) (t :
     → Stands (KeepsValues vals ended (port 0 s)) WriteValueKind s n
     → Stands (KeepsValues vals ended (port 0 s)) WriteValueKind s (n + 1)
 values_put vals ended s n p t at h =
-    stands_step (KeepsValues vals ended (port 0 s)) (KeepsValues vals ended (port 0 s)) WriteValueKind s n (Putting p t)
+    stands-step (KeepsValues vals ended (port 0 s)) (KeepsValues vals ended (port 0 s)) WriteValueKind s n (Putting p t)
     (values_passed vals ended (port 0 s) p t) at h

@@ -8,7 +8,7 @@ ghost use Rattle.block_core.specs.Ports.{Streams, port};
 ghost use Rattle.block_core.specs.Kind.{Fits, WriteLevelKind, moves};
 ghost use Rattle.block_core.specs.Written.{items_in, segs_of, crds_of};
 ghost use Rattle.block_core.specs.Stands.{Stands};
-ghost use Rattle.block_core.proofs.Unique.{same_wish};
+ghost use Rattle.block_core.proofs.Unique.{same-wish};
 ghost use Rattle.level_writer.specs.WriterSteps.{writer_took};
 ghost use Rattle.level_writer.specs.Kept.{KeepsLevel, filled_by, ends_after};
 
@@ -151,5 +151,5 @@ impl BlockStep for LevelWriter {
 
     ghost stands_within = { λ b s n h. h.within };
 
-    ghost agrees = { λ b s r n h k a. same_wish _ _ n (moves (WriteLevelKind b.level) s) (moves (WriteLevelKind b.level) r) h.rest.runs k.rest.runs a };
+    ghost agrees = { λ b s r n h k a. same-wish _ _ n (moves (WriteLevelKind b.level) s) (moves (WriteLevelKind b.level) r) h.rest.runs k.rest.runs a };
 }

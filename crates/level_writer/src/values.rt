@@ -6,7 +6,7 @@ ghost use Rattle.block_core.specs.Ports.{Streams, port};
 ghost use Rattle.block_core.specs.Kind.{Fits, WriteValueKind, moves};
 ghost use Rattle.block_core.specs.Written.{items_in, vals_of};
 ghost use Rattle.block_core.specs.Stands.{Stands};
-ghost use Rattle.block_core.proofs.Unique.{same_wish};
+ghost use Rattle.block_core.proofs.Unique.{same-wish};
 ghost use Rattle.level_writer.specs.WriterSteps.{writer_took};
 ghost use Rattle.level_writer.specs.Kept.{KeepsValues};
 
@@ -106,5 +106,5 @@ impl BlockStep for ValueWriter {
 
     ghost stands_within = { λ b s n h. h.within };
 
-    ghost agrees = { λ b s r n h k a. same_wish _ _ n (moves WriteValueKind s) (moves WriteValueKind r) h.rest.runs k.rest.runs a };
+    ghost agrees = { λ b s r n h k a. same-wish _ _ n (moves WriteValueKind s) (moves WriteValueKind r) h.rest.runs k.rest.runs a };
 }

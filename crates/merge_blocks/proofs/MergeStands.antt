@@ -8,7 +8,7 @@ use Rattle.block_core.specs.Ports.{Streams}
 use Rattle.block_core.specs.Kind.{Kind, IntersectKind, UnionKind, Fits, moves, reading}
 use Rattle.block_core.specs.Runs.{Runs}
 use Rattle.block_core.specs.Stands.{Stands}
-use Rattle.block_core.proofs.Standing.{stands_start, stands_take, stands_put}
+use Rattle.block_core.proofs.Standing.{stands-start, stands-take, stands-put}
 use Rattle.merge_blocks.specs.declared.merger.Merger.{Merger}
 use Rattle.merge_blocks.specs.MergeSteps.{new_merger, merge_steps}
 use Rattle.merge_blocks.proofs.MergeRuns.{merge_run}
@@ -21,14 +21,14 @@ pub meet_starts : (l r : ℕ) (m : Merger) → l + r ≤ 8 → m ≡ new_merger 
     → (s : Streams) → Fits (IntersectKind l r) s → Sits IntersectKind m s 0
 meet_starts l r m few e s f =
     subst (λ (x : Merger). Sits IntersectKind x s 0) (sym e)
-    (stands_start merge_steps (new_merger false l r) (IntersectKind l r) s f
+    (stands-start merge_steps (new_merger false l r) (IntersectKind l r) s f
     (merge_run false l r few (reading (IntersectKind l r) s) (replicate 10 Empty) refl))
 
 pub unite_starts : (l r : ℕ) (m : Merger) → l + r ≤ 8 → m ≡ new_merger true l r
     → (s : Streams) → Fits (UnionKind l r) s → Sits UnionKind m s 0
 unite_starts l r m few e s f =
     subst (λ (x : Merger). Sits UnionKind x s 0) (sym e)
-    (stands_start merge_steps (new_merger true l r) (UnionKind l r) s f
+    (stands-start merge_steps (new_merger true l r) (UnionKind l r) s f
     (merge_run true l r few (reading (UnionKind l r) s) (replicate 10 Empty) refl))
 
 -- the sides stay as wide
@@ -42,10 +42,10 @@ pub sits_take : (kind : ℕ → ℕ → Kind) (m m' : Merger) (s : Streams) (n p
     → m' ≡ merge_steps.took m t → m'.left ≡ m.left → m'.right ≡ m.right
     → slice_get (moves (kind m.left m.right) s) n ≡ Some (Taking port t) → Sits kind m s n → Sits kind m' s (n + 1)
 sits_take kind m m' s n port t e a b at h =
-    same_sides kind m m' s (n + 1) a b (stands_take merge_steps m m' (kind m.left m.right) s n port t e at h)
+    same_sides kind m m' s (n + 1) a b (stands-take merge_steps m m' (kind m.left m.right) s n port t e at h)
 
 pub sits_put : (kind : ℕ → ℕ → Kind) (m m' : Merger) (s : Streams) (n port : ℕ) (t : Token)
     → m' ≡ merge_steps.put m → m'.left ≡ m.left → m'.right ≡ m.right
     → slice_get (moves (kind m.left m.right) s) n ≡ Some (Putting port t) → Sits kind m s n → Sits kind m' s (n + 1)
 sits_put kind m m' s n port t e a b at h =
-    same_sides kind m m' s (n + 1) a b (stands_put merge_steps m m' (kind m.left m.right) s n port t e at h)
+    same_sides kind m m' s (n + 1) a b (stands-put merge_steps m m' (kind m.left m.right) s n port t e at h)

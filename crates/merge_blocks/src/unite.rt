@@ -5,7 +5,7 @@ ghost use Rattle.block_core.specs.Ports.{Streams};
 ghost use Rattle.block_core.specs.Kind.{UnionKind, Fits, moves};
 ghost use Rattle.block_core.specs.Stands.{Stands};
 ghost use Rattle.block_core.specs.Runs.{Runs};
-ghost use Rattle.block_core.proofs.Unique.{same_wish};
+ghost use Rattle.block_core.proofs.Unique.{same-wish};
 ghost use Rattle.merge_blocks.specs.MergeSteps.{IsWithin, merge_steps};
 
 use crate::merger::Merger;
@@ -73,5 +73,5 @@ impl BlockStep for Unioner {
 
     ghost stands_within = { λ b s n h. h.within };
 
-    ghost agrees = { λ b s r n h k a. same_wish _ _ n (moves (UnionKind b.merger.left b.merger.right) s) (moves (UnionKind b.merger.left b.merger.right) r) h.rest k.rest a };
+    ghost agrees = { λ b s r n h k a. same-wish _ _ n (moves (UnionKind b.merger.left b.merger.right) s) (moves (UnionKind b.merger.left b.merger.right) r) h.rest k.rest a };
 }

@@ -12,7 +12,7 @@ use Rattle.block_core.specs.Move.{Move, Taking, Putting, takes, puts}
 use Rattle.block_core.specs.Ports.{Streams}
 use Rattle.block_core.specs.Kind.{Kind, moves}
 use Rattle.block_core.specs.Bursts.{MayTakeNext, MayPutNext, MayPour, Poured, MayRelay, relayed}
-use Rattle.block_core.proofs.Pouring.{at_place, drop_twice}
+use Rattle.block_core.proofs.Pouring.{at-place, drop-twice}
 use Rattle.plays.specs.Net.{Net, Rooms, State, Wired, Waits, can, raise, sent, got, sum_below, turn, play, has_room}
 use Rattle.plays.specs.Held.{Queued}
 use Rattle.plays.specs.Told.{HasLists, Grew, one_told}
@@ -55,7 +55,7 @@ made_same e qs told q t =
 left_after : (net : Net) (b : ℕ) (s t : State) (xs rest : List Move) → drop (s b) (net.moves b) ≡ xs ++ rest → t b ≡ s b + length xs
     → drop (t b) (net.moves b) ≡ rest
 left_after net b s t xs rest left here =
-    ap (λ n. drop n (net.moves b)) here ∙ sym (drop_twice (net.moves b) (s b) (length xs))
+    ap (λ n. drop n (net.moves b)) here ∙ sym (drop-twice (net.moves b) (s b) (length xs))
     ∙ ap (drop (length xs)) left ∙ past xs
   where
     past : (xs : List Move) → drop (length xs) (xs ++ rest) ≡ rest
@@ -106,7 +106,7 @@ some_read (y ∷ xs) zero d l = refl
 some_read (y ∷ xs) (suc i) d l = some_read xs i d (omega (arith, l))
 
 next_at : (e : Ends) (net : Net) (s : State) (m : Move) (rest : List Move) → drop (s e.block) (net.moves e.block) ≡ m ∷ rest → slice_get (net.moves e.block) (s e.block) ≡ Some m
-next_at e net s m rest left = at_place (net.moves e.block) (s e.block) m rest left
+next_at e net s m rest left = at-place (net.moves e.block) (s e.block) m rest left
 
 -- a block that takes next has a queue there
 pub take_port : (e : Ends) (p : ℕ) → MayTakeNext (FedAt e) p → p < length e.ins
@@ -338,7 +338,7 @@ relay_none e from to us = (omega arith, made_none e)
 second_at : (e : Ends) (net : Net) (s : State) (m m' : Move) (rest : List Move) → drop (s e.block) (net.moves e.block) ≡ m ∷ m' ∷ rest
     → slice_get (net.moves e.block) (s e.block + 1) ≡ Some m'
 second_at e net s m m' rest left =
-    at_place (net.moves e.block) (s e.block + 1) m' rest (sym (drop_twice (net.moves e.block) (s e.block) 1) ∙ ap (drop 1) left)
+    at-place (net.moves e.block) (s e.block + 1) m' rest (sym (drop-twice (net.moves e.block) (s e.block) 1) ∙ ap (drop 1) left)
 
 pub relay_in_port : (e : Ends) (p q : ℕ) (t : Token) → MayRelayOne e p q t → p < length e.ins
 relay_in_port e p q t may = take_port e p (∥∥₁_map may (λ r. (r.0, Putting q t ∷ r.1, r.2)))

@@ -5,7 +5,7 @@ use Rattle.std.proofs.Math.Seq.{take-append_seam, drop-append_seam}
 use Rattle.std.proofs.lemmas.List.{append_cancel_left}
 use Rattle.stream_tokens.specs.declared.Token.{Token}
 use Rattle.block_core.specs.Move.{Move, Taking, Putting, takes, puts}
-use Rattle.block_core.proofs.Standing.{drop_at}
+use Rattle.block_core.proofs.Standing.{drop-at}
 use Rattle.plays.specs.Net.{Net, Rooms, State, Wired, raise, whole, sent, got, waiting, queue, has_room, can_move, can, Waits, start}
 use Rattle.plays.proofs.Moves.{takes-append, takes_here, takes_split, puts_split}
 use Rattle.plays.proofs.Event.{sent_put, sent_put_there, got_put, got_take, got_take_there, sent_take}
@@ -80,7 +80,7 @@ next_of_whole net s b p u w e =
     let token : takes (net.received_at c) (Taking p u ∷ []) ≡ u ∷ [] = ap (λ q. takes q (Taking p u ∷ [])) at.1 ∙ takes_here p u in (
       takes (net.received_at c) after,
       sym (got_whole net s c w at.2)
-          ∙ ap (λ (z : List Move). got net s c ++ takes (net.received_at c) z) (drop_at ms n (Taking p u) next)
+          ∙ ap (λ (z : List Move). got net s c ++ takes (net.received_at c) z) (drop-at ms n (Taking p u) next)
           ∙ ap (λ (z : List Token). got net s c ++ z) (takes-append (net.received_at c) (Taking p u ∷ []) after)
           ∙ ap (λ (z : List Token). got net s c ++ (z ++ takes (net.received_at c) after)) token,
     )

@@ -4,12 +4,12 @@ use Rattle.stream_tokens.specs.declared.Token.TheVariants.{Stop}
 use Rattle.stream_tokens.specs.Nest.{Leaf, Fiber}
 use Rattle.block_core.specs.Move.{Move, Taking}
 use Rattle.block_core.specs.SumScalar.{take_values, sumscalar_fiber, sumscalar_moves, fiber_sum}
-use Rattle.block_core.specs.Arithmetic.{combine, Plus}
+use Rattle.block_core.specs.Arithmetic.{combined_leaf, Plus}
 use Rattle.block_core.specs.Ports.{Streams}
 use Rattle.block_core.specs.Kind.{SumScalarKind, Fits, reading}
 use Rattle.block_core.specs.Runs.{Runs}
 use Rattle.block_core.specs.Stands.{Stands}
-use Rattle.block_core.proofs.Standing.{stands_start}
+use Rattle.block_core.proofs.Standing.{stands-start}
 use Rattle.scalar_reducer.specs.declared.reducer.SumState.TheVariants.{Outer, Summing, Summed}
 use Rattle.scalar_reducer.specs.SumSteps.{sum_steps}
 use Rattle.scalar_reducer.proofs.LeftSum.{added, added-sums}
@@ -17,7 +17,7 @@ use Rattle.scalar_reducer.proofs.LeftSum.{added, added-sums}
 added_run : (vs : List Leaf) (sum : Leaf) (rest : List Move)
     → Runs sum_steps (Summing (added sum vs)) rest → Runs sum_steps (Summing sum) (take_values 1 vs rest)
 added_run [] sum rest h = h
-added_run (Some v ∷ vs) sum rest h = (refl, added_run vs (combine Plus sum (Some v)) rest h)
+added_run (Some v ∷ vs) sum rest h = (refl, added_run vs (combined_leaf Plus sum (Some v)) rest h)
 added_run (None ∷ vs) None rest h = (refl, added_run vs None rest h)
 added_run (None ∷ vs) (Some a) rest h = (refl, added_run vs (Some a) rest h)
 
@@ -39,4 +39,4 @@ sum_run (([], n) ∷ fs) = (refl, (refl, (refl, sum_run fs)))
 sum_run (((m ∷ ms), n) ∷ fs) = fiber_run n m ms (sumscalar_moves fs) (sum_run fs)
 
 pub sum_starts : (s : Streams) → Fits SumScalarKind s → Stands (Runs sum_steps Outer) SumScalarKind s 0
-sum_starts s f = stands_start sum_steps Outer SumScalarKind s f (sum_run (reading SumScalarKind s))
+sum_starts s f = stands-start sum_steps Outer SumScalarKind s f (sum_run (reading SumScalarKind s))

@@ -5,7 +5,7 @@ use Rattle.stream_tokens.specs.declared.Token.TheVariants.{Item, Empty, Stop, Do
 use Rattle.stream_tokens.specs.Nest.{Leaf, leaf}
 use Rattle.block_core.specs.declared.Wish.{Wish}
 use Rattle.block_core.specs.declared.Wish.TheVariants.{Take, Put, Finished}
-use Rattle.block_core.specs.Arithmetic.{combine, Plus}
+use Rattle.block_core.specs.Arithmetic.{combined_leaf, Plus}
 use Rattle.block_core.specs.Runs.{Steps}
 use Rattle.scalar_reducer.specs.declared.reducer.SumState.{SumState}
 use Rattle.scalar_reducer.specs.declared.reducer.SumState.TheVariants.{Outer, Summing, Summed, Closing, Beside, Passing, Ended}
@@ -26,7 +26,7 @@ outer_took (Stop n) = Beside (Stop n)
 outer_took Done = Beside Done
 
 abbrev pub summing_took : Leaf → Token → SumState
-summing_took sum (Item value) = Summing (combine Plus sum (Some value))
+summing_took sum (Item value) = Summing (combined_leaf Plus sum (Some value))
 summing_took sum Empty = Summing sum
 summing_took sum (Stop n) = Summed sum n
 summing_took sum Done = Ended

@@ -2,12 +2,12 @@
 
 ghost use Rattle.std.specs.Prelude.{◌≡◌, ℕ, false};
 ghost use Rattle.stream_tokens.specs.Nest.{leaf};
-ghost use Rattle.block_core.specs.Arithmetic.{combine, Plus};
+ghost use Rattle.block_core.specs.Arithmetic.{combined_leaf, Plus};
 ghost use Rattle.block_core.specs.Ports.{Streams};
 ghost use Rattle.block_core.specs.Kind.{SumScalarKind, Fits, moves};
 ghost use Rattle.block_core.specs.Stands.{Stands};
 ghost use Rattle.block_core.specs.Runs.{Runs};
-ghost use Rattle.block_core.proofs.Unique.{same_wish};
+ghost use Rattle.block_core.proofs.Unique.{same-wish};
 ghost use Rattle.scalar_reducer.specs.SumSteps.{sum_steps};
 
 use block_core::{BlockStep, Wish};
@@ -17,7 +17,7 @@ use stream_tokens::Token;
 /// A sum of two values modulo 2^64, where a value may be absent.
 #[inline]
 fn plus(a: Option<u64>, b: Option<u64>) -> Option<u64>
-    ensures { result ≡ combine Plus a b }
+    ensures { result ≡ combined_leaf Plus a b }
 {
     match (a, b) {
         (Some(a), Some(b)) => Some(a.wrapping_add(b)),
@@ -162,7 +162,7 @@ impl BlockStep for ScalarReducer {
 
     ghost stands_within = { λ b s n h. h.within };
 
-    ghost agrees = { λ b s r n h k a. same_wish _ _ n (moves SumScalarKind s) (moves SumScalarKind r) h.rest k.rest a };
+    ghost agrees = { λ b s r n h k a. same-wish _ _ n (moves SumScalarKind s) (moves SumScalarKind r) h.rest k.rest a };
 }
 
 #[cfg(test)]

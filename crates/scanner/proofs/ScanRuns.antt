@@ -14,7 +14,7 @@ use Rattle.block_core.specs.Ports.{Streams, AllStreams}
 use Rattle.block_core.specs.Kind.{ScanKind, Fits, reading}
 use Rattle.block_core.specs.Runs.{Runs}
 use Rattle.block_core.specs.Stands.{Stands}
-use Rattle.block_core.proofs.Standing.{stands_start}
+use Rattle.block_core.proofs.Standing.{stands-start}
 use Rattle.scanner.specs.ScanSteps.{scan_steps, child_from}
 use Rattle.scanner.specs.declared.state.ScanState.{ScanState}
 use Rattle.scanner.specs.declared.state.ScanState.TheVariants.{Wanting, Child}
@@ -56,5 +56,5 @@ module _ (children : Children) where
   pub scan_starts : (s : Streams) → Fits (ScanKind children) s → Stands (Runs (scan_steps children) (Wanting false)) (ScanKind children) s 0
   scan_starts s f =
       let whole : AllStreams (flat leaf (reading (ScanKind children) s) ∷ []) = subst AllStreams (sym f.back) f.streams in
-      stands_start (scan_steps children) (Wanting false) (ScanKind children) s f
+      stands-start (scan_steps children) (Wanting false) (ScanKind children) s f
       (scan_run false (flat leaf (reading (ScanKind children) s)) (IsStream-ends (flat leaf (reading (ScanKind children) s)) whole.0))

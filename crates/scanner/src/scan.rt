@@ -6,7 +6,7 @@ ghost use Rattle.block_core.specs.Ports.{Streams};
 ghost use Rattle.block_core.specs.Kind.{ScanKind, Fits, moves};
 ghost use Rattle.block_core.specs.Stands.{Stands};
 ghost use Rattle.block_core.specs.Runs.{Runs};
-ghost use Rattle.block_core.proofs.Unique.{same_wish};
+ghost use Rattle.block_core.proofs.Unique.{same-wish};
 ghost use Rattle.levels.specs.Reads.{children_at};
 ghost use Rattle.scanner.specs.ScanSteps.{scan_steps, scan_wants, scan_took, scan_put, number_at, child_from, called_for, is_scanned, is_within};
 
@@ -194,5 +194,5 @@ impl<'a> BlockStep for Scanner<'a> {
 
     ghost stands_within = { λ b s n h. h.within };
 
-    ghost agrees = { λ b s r n h k a. same_wish _ _ n (moves (ScanKind (children_at b.storage.now b.level)) s) (moves (ScanKind (children_at b.storage.now b.level)) r) h.rest k.rest a };
+    ghost agrees = { λ b s r n h k a. same-wish _ _ n (moves (ScanKind (children_at b.storage.now b.level)) s) (moves (ScanKind (children_at b.storage.now b.level)) r) h.rest k.rest a };
 }

@@ -9,7 +9,7 @@ use Rattle.block_core.specs.DropFiber.{pass_items, keep_moves, keep_close, keep_
 use Rattle.block_core.specs.Kind.{DropFiberKind, Fits, reading}
 use Rattle.block_core.specs.Runs.{Runs}
 use Rattle.block_core.specs.Stands.{Stands}
-use Rattle.block_core.proofs.Standing.{stands_start}
+use Rattle.block_core.proofs.Standing.{stands-start}
 use Rattle.shape_blocks.specs.DropFiberSteps.{drop_fiber_steps}
 use Rattle.shape_blocks.specs.declared.drop_fiber.DropFiberState.TheVariants.{Outer, First, Rest}
 
@@ -50,4 +50,4 @@ drop_fiber_run (((m ∷ ms), n) ∷ fs) p =
 
 pub drop_fiber_starts : (s : Streams) → Fits DropFiberKind s → Stands (Runs drop_fiber_steps (Outer false)) DropFiberKind s 0
 drop_fiber_starts s f =
-    stands_start drop_fiber_steps (Outer false) DropFiberKind s f (drop_fiber_run (reading DropFiberKind s) f.well)
+    stands-start drop_fiber_steps (Outer false) DropFiberKind s f (drop_fiber_run (reading DropFiberKind s) f.well)

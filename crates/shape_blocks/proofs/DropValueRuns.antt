@@ -8,7 +8,7 @@ use Rattle.block_core.specs.DropValue.{put_kept, dropvalue_close, dropvalue_leav
 use Rattle.block_core.specs.Kind.{DropValueKind, Fits, reading}
 use Rattle.block_core.specs.Runs.{Runs}
 use Rattle.block_core.specs.Stands.{Stands}
-use Rattle.block_core.proofs.Standing.{stands_start}
+use Rattle.block_core.proofs.Standing.{stands-start}
 use Rattle.shape_blocks.specs.DropValueSteps.{drop_value_steps}
 use Rattle.shape_blocks.specs.declared.drop_value.DropValueState.TheVariants.{Coordinate, Value}
 
@@ -33,4 +33,4 @@ drop_value_run [] = (refl, (refl, (refl, (refl, refl))))
 drop_value_run (f ∷ fs) = leaves_run f.0 _ (close_run f.1 _ (drop_value_run fs))
 
 pub drop_value_starts : (s : Streams) → Fits DropValueKind s → Stands (Runs drop_value_steps Coordinate) DropValueKind s 0
-drop_value_starts s f = stands_start drop_value_steps Coordinate DropValueKind s f (drop_value_run (reading DropValueKind s))
+drop_value_starts s f = stands-start drop_value_steps Coordinate DropValueKind s f (drop_value_run (reading DropValueKind s))

@@ -3,16 +3,16 @@ use Rattle.std.proofs.Common.{◌≡◌, ℕ, suc, ◌+◌, ◌<◌, ◌≤◌, 
 use Rattle.stream_tokens.specs.declared.Token.{Token}
 use Rattle.stream_tokens.specs.declared.Token.TheVariants.{Empty, Stop, Done}
 use Rattle.stream_tokens.specs.Nest.{Fiber}
-use Rattle.stream_tokens.specs.Flat.{written, flat}
+use Rattle.stream_tokens.specs.Flat.{fiber_tokens, flat}
 use Rattle.stream_tokens.specs.Shapes.{Positive}
 use Rattle.stream_tokens.proofs.Ending.{EndsWithin, IsStream-ends}
 use Rattle.block_core.specs.Move.{Move, Taking, Putting, across, over, take_row, put_row, put_all}
 use Rattle.block_core.specs.Ports.{Streams, AllStreams}
-use Rattle.block_core.specs.Fill.{Serving, Place, Filling, mark, number_at, stop_at, skips_at, tail_at, opened_all, more_moves, serve, fill_places, fill_moves, port_streams}
+use Rattle.block_core.specs.Fill.{Serving, ServedPlace, Filling, place_token, head_item, stop_at, skips_at, tail_at, parting_all, more_moves, serve, fill_places, fill_moves, port_streams}
 use Rattle.block_core.specs.Kind.{FillKind, Fits, moves, reading}
 use Rattle.block_core.specs.Runs.{Runs}
 use Rattle.block_core.specs.Stands.{Stands}
-use Rattle.block_core.proofs.Standing.{stands_start, stands_take, stands_put}
+use Rattle.block_core.proofs.Standing.{stands-start, stands-take, stands-put}
 use Rattle.shape_blocks.specs.declared.fill_state.Then.{Then}
 use Rattle.shape_blocks.specs.declared.fill_state.Then.TheVariants.{Resume, Seek, End}
 use Rattle.shape_blocks.specs.declared.fill_state.Stage.TheVariants.{Presence, Spreading, Seeking, Putting, Head}
@@ -34,7 +34,7 @@ heads_run w s rest b go [] held l =
     subst P (sym (k 0 (omega arith))) (go held' l'))
     w 0 held (omega arith) l (λ j c. absurd (omega arith))
 heads_run w s rest b go (h ∷ hs) held l =
-    let x : ℕ → Token = λ p. number_at p h in
+    let x : ℕ → Token = λ p. head_item p h in
     let after : List Move = more_moves (suc w) hs (take_row 1 (across (stop_at s) 0 (suc w)) rest) in
     head_run w x _ b
     (λ held' l' k.
@@ -48,14 +48,14 @@ serve_run : (w : ℕ) (s : Serving) (rest : List Move) → w ≤ 8
     → Runs fill_steps (at w held (Seeking 0)) (serve (suc w) s rest)
 serve_run w s rest b go held l =
     seek_run w (skips_at s) (λ p. get_or s.first p 0) _ b
-    (λ held' l' k. row_run w held' (λ p. number_at p s.first) _ w 0 (omega arith) k (heads_run w s rest b go s.more held' l'))
+    (λ held' l' k. row_run w held' (λ p. head_item p s.first) _ w 0 (omega arith) k (heads_run w s rest b go s.more held' l'))
     w 0 held (omega arith) l (λ j c. absurd (omega arith))
 
 -- ---- the presence
 
 opened_run : (w : ℕ) (held : List Token) (more : Bool) (follows : Then) (rest : List Move)
     → Runs fill_steps (at w held (stage_after follows)) rest
-    → Runs fill_steps (at w held (opened more follows)) (opened_all (suc w) more rest)
+    → Runs fill_steps (at w held (opened more follows)) (parting_all (suc w) more rest)
 opened_run w held true follows rest h = spread_run w held (Stop 0) follows rest w 0 (omega arith) h
 opened_run w held false follows rest h = h
 
@@ -64,7 +64,7 @@ raised-below k b = omega arith
 
 places_run : (w k : ℕ) (rest : List Move) → w ≤ 8 → k < 200
     → ((held : List Token) → length held ≡ 9 → Runs fill_steps (at w held (Presence false)) rest)
-    → (more : Bool) (xs : List Place) (held : List Token) → length held ≡ 9
+    → (more : Bool) (xs : List ServedPlace) (held : List Token) → length held ≡ 9
     → Runs fill_steps (at w held (Presence more)) (fill_places (suc w) (suc k) more xs rest)
 places_run w k rest b c go more [] held l =
     let P : ℕ → Type 0 = λ n. Runs fill_steps (at w held (Spreading (Stop n) 0 (Resume false))) (put_all (suc w) (Stop (suc k)) rest) in
@@ -74,20 +74,20 @@ places_run w k rest b c go more (None ∷ xs) held l =
 places_run w k rest b c go more (Some s ∷ xs) held l =
     (refl, opened_run w held more Seek _ (serve_run w s.1 _ b (places_run w k rest b c go true xs) held l))
 
-marks_end : (xs : List Place) (rest : List Token) → EndsWithin 200 (written mark xs rest) → EndsWithin 200 rest
+marks_end : (xs : List ServedPlace) (rest : List Token) → EndsWithin 200 (fiber_tokens place_token xs rest) → EndsWithin 200 rest
 marks_end [] rest h = h
 marks_end (None ∷ xs) rest h = marks_end xs rest h
 marks_end (Some s ∷ xs) rest h = marks_end xs rest h
 
-fill_run : (w : ℕ) (tails : List (List ℕ)) → w ≤ 8 → (fs : List (Fiber Place)) → Positive fs → EndsWithin 200 (flat mark fs)
+fill_run : (w : ℕ) (tails : List (List ℕ)) → w ≤ 8 → (fs : List (Fiber ServedPlace)) → Positive fs → EndsWithin 200 (flat place_token fs)
     → (held : List Token) → length held ≡ 9
     → Runs fill_steps (at w held (Presence false)) (fill_moves (suc w) tails fs)
 fill_run w tails b [] p e held l =
     (refl, drain_run w held (tail_at tails) _ (spread_run w held Done End [] w 0 (omega arith) refl) w 0 (omega arith))
 fill_run w tails b ((xs, n) ∷ fs) p e held l =
     let k = p.0.0 in
-    let E : ℕ → Type 0 = λ m. EndsWithin 200 (flat mark ((xs, m) ∷ fs)) in
-    let ends : EndsWithin 200 (Stop k ∷ flat mark fs) = marks_end xs (Stop k ∷ flat mark fs) (subst E p.0.1 e) in
+    let E : ℕ → Type 0 = λ m. EndsWithin 200 (flat place_token ((xs, m) ∷ fs)) in
+    let ends : EndsWithin 200 (Stop k ∷ flat place_token fs) = marks_end xs (Stop k ∷ flat place_token fs) (subst E p.0.1 e) in
     let P : ℕ → Type 0 = λ m. Runs fill_steps (at w held (Presence false)) (fill_places (suc w) m false xs (fill_moves (suc w) tails fs)) in
     subst P (sym p.0.1) (places_run w k (fill_moves (suc w) tails fs) b ends.0 (fill_run w tails b fs p.1 ends.1) false xs held l)
 
@@ -95,11 +95,11 @@ pub fill_starts : (w : ℕ) (a : FillState) → w ≤ 8 → a ≡ new_state w �
     → Stands (Runs fill_steps a) (FillKind a.payloads) s 0
 fill_starts w a b e s f =
     let j : Filling = reading (FillKind w) s in
-    let whole : AllStreams (flat mark j.fibers ∷ port_streams (suc w) j) = subst AllStreams (sym f.back) f.streams in
+    let whole : AllStreams (flat place_token j.fibers ∷ port_streams (suc w) j) = subst AllStreams (sym f.back) f.streams in
     let P : FillState → Type 0 = λ x. Stands (Runs fill_steps x) (FillKind x.payloads) s 0 in
     subst P (sym e)
-    (stands_start fill_steps (new_state w) (FillKind w) s f
-    (fill_run w j.tails b j.fibers f.well (IsStream-ends (flat mark j.fibers) whole.0) (replicate 9 Empty) refl))
+    (stands-start fill_steps (new_state w) (FillKind w) s f
+    (fill_run w j.tails b j.fibers f.well (IsStream-ends (flat place_token j.fibers) whole.0) (replicate 9 Empty) refl))
 
 pub fill_take : (a a' : FillState) (s : Streams) (n p : ℕ) (t : Token) → a' ≡ fill_steps.took a t → a'.payloads ≡ a.payloads
     → slice_get (moves (FillKind a.payloads) s) n ≡ Some (Taking p t)
@@ -107,7 +107,7 @@ pub fill_take : (a a' : FillState) (s : Streams) (n p : ℕ) (t : Token) → a' 
     → Stands (Runs fill_steps a') (FillKind a'.payloads) s (n + 1)
 fill_take a a' s n p t e w at h =
     let P : ℕ → Type 0 = λ x. Stands (Runs fill_steps a') (FillKind x) s (n + 1) in
-    subst P (sym w) (stands_take fill_steps a a' (FillKind a.payloads) s n p t e at h)
+    subst P (sym w) (stands-take fill_steps a a' (FillKind a.payloads) s n p t e at h)
 
 pub fill_put : (a a' : FillState) (s : Streams) (n p : ℕ) (t : Token) → a' ≡ fill_steps.put a → a'.payloads ≡ a.payloads
     → slice_get (moves (FillKind a.payloads) s) n ≡ Some (Putting p t)
@@ -115,4 +115,4 @@ pub fill_put : (a a' : FillState) (s : Streams) (n p : ℕ) (t : Token) → a' �
     → Stands (Runs fill_steps a') (FillKind a'.payloads) s (n + 1)
 fill_put a a' s n p t e w at h =
     let P : ℕ → Type 0 = λ x. Stands (Runs fill_steps a') (FillKind x) s (n + 1) in
-    subst P (sym w) (stands_put fill_steps a a' (FillKind a.payloads) s n p t e at h)
+    subst P (sym w) (stands-put fill_steps a a' (FillKind a.payloads) s n p t e at h)

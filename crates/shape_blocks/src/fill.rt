@@ -6,7 +6,7 @@ ghost use Rattle.block_core.specs.Ports.{Streams};
 ghost use Rattle.block_core.specs.Kind.{FillKind, Fits, moves};
 ghost use Rattle.block_core.specs.Stands.{Stands};
 ghost use Rattle.block_core.specs.Runs.{Runs};
-ghost use Rattle.block_core.proofs.Unique.{same_wish};
+ghost use Rattle.block_core.proofs.Unique.{same-wish};
 ghost use Rattle.shape_blocks.specs.FillSteps.{IsWithin, fill_steps};
 
 use crate::fill_state::FillState;
@@ -86,5 +86,5 @@ impl BlockStep for Filler {
 
     ghost stands_within = { λ b s n h. h.within };
 
-    ghost agrees = { λ b s r n h k a. same_wish _ _ n (moves (FillKind b.state.payloads) s) (moves (FillKind b.state.payloads) r) h.rest k.rest a };
+    ghost agrees = { λ b s r n h k a. same-wish _ _ n (moves (FillKind b.state.payloads) s) (moves (FillKind b.state.payloads) r) h.rest k.rest a };
 }

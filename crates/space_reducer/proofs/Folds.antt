@@ -1,7 +1,7 @@
 -- What is added one after another, from the left, is what a sum from the right gathers.
 use Rattle.std.proofs.Common.{◌≡◌, ℕ, List, [], ◌∷◌, ◌++◌, None, refl, sym, ◌∙◌, ap}
 use Rattle.stream_tokens.specs.Nest.{Leaf}
-use Rattle.block_core.specs.Arithmetic.{combine, Plus}
+use Rattle.block_core.specs.Arithmetic.{combined_leaf, Plus}
 use Rattle.block_core.specs.Gather.{add_at, gather, all_of}
 use Rattle.space_reducer.proofs.Changed.{change_at, add-changes, change-swap}
 use Rattle.space_reducer.proofs.Added.{plus-nothing, plus-comm, plus-assoc}
@@ -38,25 +38,25 @@ gather-right add (p ∷ ps) = ap (add_at add p.0 p.1) (gather-right add ps)
 
 -- a value with its coordinate added to those kept
 abbrev pub add_pair : ℕ × Leaf → List (ℕ × Leaf) → List (ℕ × Leaf)
-add_pair p xs = add_at (combine Plus) p.0 p.1 xs
+add_pair p xs = add_at (combined_leaf Plus) p.0 p.1 xs
 
-plus-past : (a b r : Leaf) → combine Plus a (combine Plus b r) ≡ combine Plus b (combine Plus a r)
-plus-past a b r = sym (plus-assoc a b r) ∙ ap (λ x. combine Plus x r) (plus-comm a b) ∙ plus-assoc b a r
+plus-past : (a b r : Leaf) → combined_leaf Plus a (combined_leaf Plus b r) ≡ combined_leaf Plus b (combined_leaf Plus a r)
+plus-past a b r = sym (plus-assoc a b r) ∙ ap (λ x. combined_leaf Plus x r) (plus-comm a b) ∙ plus-assoc b a r
 
-pair-changes : (p : ℕ × Leaf) (xs : List (ℕ × Leaf)) → add_pair p xs ≡ change_at None (combine Plus p.1) p.0 xs
-pair-changes p xs = add-changes None (combine Plus) plus-nothing p.0 p.1 xs
+pair-changes : (p : ℕ × Leaf) (xs : List (ℕ × Leaf)) → add_pair p xs ≡ change_at None (combined_leaf Plus p.1) p.0 xs
+pair-changes p xs = add-changes None (combined_leaf Plus) plus-nothing p.0 p.1 xs
 
 pairs-swap : (p q : ℕ × Leaf) (xs : List (ℕ × Leaf)) → add_pair p (add_pair q xs) ≡ add_pair q (add_pair p xs)
 pairs-swap p q xs =
     ap (add_pair p) (pair-changes q xs)
-    ∙ pair-changes p (change_at None (combine Plus q.1) q.0 xs)
-    ∙ change-swap None (combine Plus p.1) (combine Plus q.1) p.0 q.0 xs (plus-past p.1 q.1)
-    ∙ sym (pair-changes q (change_at None (combine Plus p.1) p.0 xs))
+    ∙ pair-changes p (change_at None (combined_leaf Plus q.1) q.0 xs)
+    ∙ change-swap None (combined_leaf Plus p.1) (combined_leaf Plus q.1) p.0 q.0 xs (plus-past p.1 q.1)
+    ∙ sym (pair-changes q (change_at None (combined_leaf Plus p.1) p.0 xs))
     ∙ ap (add_pair q) (sym (pair-changes p xs))
 
-pub added-gathers : (ps : List (ℕ × Leaf)) → from_left add_pair [] ps ≡ gather (combine Plus) ps
+pub added-gathers : (ps : List (ℕ × Leaf)) → from_left add_pair [] ps ≡ gather (combined_leaf Plus) ps
 added-gathers ps =
-    left-right add_pair add_pair [] pairs-swap (λ p. refl) ps ∙ sym (gather-right (combine Plus) ps)
+    left-right add_pair add_pair [] pairs-swap (λ p. refl) ps ∙ sym (gather-right (combined_leaf Plus) ps)
 
 -- piece by piece
 pub by-pieces : {A S : Type 0} (f : A → S → S) (s : S) (xss : List (List A)) → from_left (λ xs t. from_left f t xs) s xss ≡ from_left f s (all_of xss)

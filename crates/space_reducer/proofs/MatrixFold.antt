@@ -3,7 +3,7 @@ use Rattle.std.proofs.Common.{◌≡◌, ℕ, List, [], ◌∷◌, ◌++◌, ref
 use mathlib.Core.List.{map}
 use Rattle.stream_tokens.specs.Nest.{Leaf}
 use Rattle.block_core.specs.Gather.{add_at, gather, all_of}
-use Rattle.block_core.specs.SumMatrix.{MatrixRow, MatrixPiece, join, row_sum, matrix_sum}
+use Rattle.block_core.specs.SumMatrix.{MatrixRow, MatrixPiece, append_pairs, row_sum, matrix_sum}
 use Rattle.space_reducer.proofs.Changed.{change_at, change-swap, add-changes, map-change}
 use Rattle.space_reducer.proofs.Ordered.{Ascends, ascends-change}
 use Rattle.space_reducer.proofs.Folds.{from_left, from_left-append, left-right, gather-right, add_pair, added-gathers, by-pieces}
@@ -24,22 +24,22 @@ append_row : MatrixRow → List MatrixRow → List MatrixRow
 append_row m rows = change_at [] (λ r. r ++ m.1) m.0 rows
 
 join_row : MatrixRow → List MatrixRow → List MatrixRow
-join_row m rows = add_at join m.0 m.1 rows
+join_row m rows = add_at append_pairs m.0 m.1 rows
 
-join-changes : (m : MatrixRow) (rows : List MatrixRow) → join_row m rows ≡ change_at [] (join m.1) m.0 rows
+join-changes : (m : MatrixRow) (rows : List MatrixRow) → join_row m rows ≡ change_at [] (append_pairs m.1) m.0 rows
 unfolding join_row
-join-changes m rows = add-changes [] join append-nil m.0 m.1 rows
+join-changes m rows = add-changes [] append_pairs append-nil m.0 m.1 rows
 
 rows-swap : (m n : MatrixRow) (rows : List MatrixRow) → join_row m (append_row n rows) ≡ append_row n (join_row m rows)
 unfolding append_row
 rows-swap m n rows =
     join-changes m (append_row n rows)
-    ∙ change-swap [] (join m.1) (λ r. r ++ n.1) m.0 n.0 rows (λ r. sym (append_assoc m.1 r n.1))
+    ∙ change-swap [] (append_pairs m.1) (λ r. r ++ n.1) m.0 n.0 rows (λ r. sym (append_assoc m.1 r n.1))
     ∙ ap (append_row n) (sym (join-changes m rows))
 
-rows-listed : (ms : List MatrixRow) → from_left append_row [] ms ≡ gather join ms
+rows-listed : (ms : List MatrixRow) → from_left append_row [] ms ≡ gather append_pairs ms
 unfolding append_row join_row
-rows-listed ms = left-right append_row join_row [] rows-swap (λ m. refl) ms ∙ sym (gather-right join ms)
+rows-listed ms = left-right append_row join_row [] rows-swap (λ m. refl) ms ∙ sym (gather-right append_pairs ms)
 
 -- listed pairs summed afterwards are pairs added at once
 row_added : MatrixRow → MatrixRow

@@ -4,12 +4,12 @@ use Rattle.stream_tokens.specs.declared.Token.TheVariants.{Item, Stop}
 use Rattle.stream_tokens.specs.Nest.{Leaf, Fiber}
 use Rattle.stream_tokens.specs.Shapes.{Positive}
 use Rattle.block_core.specs.Move.{Move, Taking}
-use Rattle.block_core.specs.SumMatrix.{MatrixRow, MatrixPiece, take_inner, take_under, row_takes, outer_takes, matrix_takes, put_inner, row_puts, flush, matrix_sum, summatrix_moves}
+use Rattle.block_core.specs.SumMatrix.{MatrixRow, MatrixPiece, take_inner, take_under, row_takes, outer_takes, matrix_takes, put_inner, row_puts, flush_moves, matrix_sum, summatrix_moves}
 use Rattle.block_core.specs.Ports.{Streams}
 use Rattle.block_core.specs.Kind.{SumMatrixKind, Fits, reading}
 use Rattle.block_core.specs.Runs.{Runs}
 use Rattle.block_core.specs.Stands.{Stands}
-use Rattle.block_core.proofs.Standing.{stands_start}
+use Rattle.block_core.proofs.Standing.{stands-start}
 use Rattle.space_reducer.specs.declared.matrix.Stops.{Stops}
 use Rattle.space_reducer.specs.declared.matrix.MatrixPhase.TheVariants.{Outer, Inner, PutOuter}
 use Rattle.space_reducer.specs.MatrixSteps.{MatrixState, matrix_state, behind_row, stop_ended, pair_put, matrix_steps}
@@ -80,23 +80,23 @@ row_puts_run stops g [] rest h = (refl, inner_puts_run stops [] g.1 _ h)
 row_puts_run stops g (g' ∷ gs) rest h = (refl, inner_puts_run stops (g' ∷ gs) g.1 _ (refl, (refl, row_puts_run stops g' gs rest h)))
 
 flush_run : (k : ℕ) (gs : List MatrixRow) (rest : List Move) → Runs matrix_steps (keeping []) rest
-    → Runs matrix_steps (stop_ended (suc k) (keeping gs)) (flush (suc k) gs rest)
+    → Runs matrix_steps (stop_ended (suc k) (keeping gs)) (flush_moves (suc k) gs rest)
 flush_run k [] rest h = (refl, (refl, (refl, h)))
 flush_run k (g ∷ gs) rest h = row_puts_run (record { outer = k; inner = suc k }) g gs _ (refl, (refl, (refl, h)))
 
 whole_piece_run : (k : ℕ) (xss : MatrixPiece) (rest : List Move) → Runs matrix_steps (keeping []) rest
-    → Runs matrix_steps (keeping []) (matrix_takes (suc k) xss (flush (suc k) (matrix_sum xss) rest))
+    → Runs matrix_steps (keeping []) (matrix_takes (suc k) xss (flush_moves (suc k) (matrix_sum xss) rest))
 whole_piece_run k xss rest h =
-    let P : List MatrixRow → Type 0 = λ gs. Runs matrix_steps (stop_ended (suc k) (keeping gs)) (flush (suc k) (matrix_sum xss) rest) in
+    let P : List MatrixRow → Type 0 = λ gs. Runs matrix_steps (stop_ended (suc k) (keeping gs)) (flush_moves (suc k) (matrix_sum xss) rest) in
     piece_run (suc k) xss [] _ tt (subst P (sym (rows-gather xss)) (flush_run k (matrix_sum xss) rest h))
 
 matrix_run : (fs : List (Fiber (List MatrixRow))) → Positive fs → Runs matrix_steps (keeping []) (summatrix_moves fs)
 matrix_run [] w = (refl, (refl, (refl, (refl, (refl, (refl, refl))))))
 matrix_run ((xss, n) ∷ fs) w =
-    let P : ℕ → Type 0 = λ n. Runs matrix_steps (keeping []) (matrix_takes n xss (flush n (matrix_sum xss) (summatrix_moves fs))) in
+    let P : ℕ → Type 0 = λ n. Runs matrix_steps (keeping []) (matrix_takes n xss (flush_moves n (matrix_sum xss) (summatrix_moves fs))) in
     subst P (sym w.0.1) (whole_piece_run w.0.0 xss (summatrix_moves fs) (matrix_run fs w.1))
 
 pub matrix_starts : (s : MatrixState) → s ≡ keeping [] → (ins : Streams) → Fits SumMatrixKind ins → Stands (Runs matrix_steps s) SumMatrixKind ins 0
 matrix_starts s e ins f =
     let P : MatrixState → Type 0 = λ x. Stands (Runs matrix_steps x) SumMatrixKind ins 0 in
-    subst P (sym e) (stands_start matrix_steps (keeping []) SumMatrixKind ins f (matrix_run (reading SumMatrixKind ins) f.well))
+    subst P (sym e) (stands-start matrix_steps (keeping []) SumMatrixKind ins f (matrix_run (reading SumMatrixKind ins) f.well))

@@ -10,7 +10,7 @@ use Rattle.block_core.specs.Ports.{Streams}
 use Rattle.block_core.specs.Kind.{SumVectorKind, Fits, reading}
 use Rattle.block_core.specs.Runs.{Runs}
 use Rattle.block_core.specs.Stands.{Stands}
-use Rattle.block_core.proofs.Standing.{stands_start}
+use Rattle.block_core.proofs.Standing.{stands-start}
 use Rattle.space_reducer.specs.declared.vector.VectorPhase.TheVariants.{Coordinate}
 use Rattle.space_reducer.specs.VectorSteps.{VectorState, vector_state, next_put, vector_steps}
 use Rattle.space_reducer.proofs.Folds.{from_left, add_pair, added-gathers, by-pieces}
@@ -59,4 +59,4 @@ pub vector_starts : (kept left : List (ℕ × Leaf)) → kept ≡ [] → left �
 vector_starts kept left k l s f =
     let Q : List (ℕ × Leaf) → Type 0 = λ xs. Stands (Runs vector_steps (vector_state Coordinate xs left)) SumVectorKind s 0 in
     let P : List (ℕ × Leaf) → Type 0 = λ xs. Stands (Runs vector_steps (vector_state Coordinate [] xs)) SumVectorKind s 0 in
-    subst Q (sym k) (subst P (sym l) (stands_start vector_steps (keeping []) SumVectorKind s f (vector_run (reading SumVectorKind s) f.well)))
+    subst Q (sym k) (subst P (sym l) (stands-start vector_steps (keeping []) SumVectorKind s f (vector_run (reading SumVectorKind s) f.well)))

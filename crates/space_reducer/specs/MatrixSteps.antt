@@ -9,7 +9,7 @@ use Rattle.stream_tokens.specs.declared.Token.TheVariants.{Item, Empty, Stop, Do
 use Rattle.stream_tokens.specs.Nest.{Leaf, leaf}
 use Rattle.block_core.specs.declared.Wish.{Wish}
 use Rattle.block_core.specs.declared.Wish.TheVariants.{Take, Put, Finished}
-use Rattle.block_core.specs.Arithmetic.{combine, Plus}
+use Rattle.block_core.specs.Arithmetic.{combined_leaf, Plus}
 use Rattle.block_core.specs.Gather.{add_at}
 use Rattle.block_core.specs.SumMatrix.{MatrixRow}
 use Rattle.block_core.specs.Runs.{Steps}
@@ -130,7 +130,7 @@ ended Done s = record s { phase = PutFirst Done Done }
 abbrev pub phase_took : MatrixPhase → MatrixState → Token → MatrixState
 phase_took Outer s t = outer_took t s
 phase_took (Inner a) s t = record s { phase = beneath_took a t }
-phase_took (Value a c) s t = record s { phase = Inner a; row = add_at (combine Plus) c (value_of t) s.row }
+phase_took (Value a c) s t = record s { phase = Inner a; row = add_at (combined_leaf Plus) c (value_of t) s.row }
 phase_took (RowEnding a n) s t = record (row_kept a s) { phase = behind_row n }
 phase_took Closing s t = ended t s
 phase_took (BesideInner held) s t = record s { phase = BesideValue held }

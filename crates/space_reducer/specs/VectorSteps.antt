@@ -5,7 +5,7 @@ use Rattle.stream_tokens.specs.declared.Token.TheVariants.{Item, Empty, Stop, Do
 use Rattle.stream_tokens.specs.Nest.{Leaf, leaf}
 use Rattle.block_core.specs.declared.Wish.{Wish}
 use Rattle.block_core.specs.declared.Wish.TheVariants.{Take, Put, Finished}
-use Rattle.block_core.specs.Arithmetic.{combine, Plus}
+use Rattle.block_core.specs.Arithmetic.{combined_leaf, Plus}
 use Rattle.block_core.specs.Gather.{add_at}
 use Rattle.block_core.specs.Runs.{Steps}
 use Rattle.space_reducer.specs.declared.vector.VectorPhase.{VectorPhase}
@@ -53,7 +53,7 @@ stopping_took (suc stop) s = flush s stop
 
 abbrev pub phase_took : VectorPhase → VectorState → Token → VectorState
 phase_took Coordinate s t = record s { phase = coordinate_took t }
-phase_took (Value c) s t = vector_state Coordinate (add_at (combine Plus) c (value_of t) s.kept) s.left
+phase_took (Value c) s t = vector_state Coordinate (add_at (combined_leaf Plus) c (value_of t) s.kept) s.left
 phase_took (Stopping n) s t = stopping_took n s
 phase_took Ending s t = record s { phase = PutFirst Done }
 phase_took (PutCoordinate c sum stop) s t = s

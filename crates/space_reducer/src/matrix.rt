@@ -5,7 +5,7 @@ ghost use Rattle.block_core.specs.Ports.{Streams};
 ghost use Rattle.block_core.specs.Kind.{SumMatrixKind, Fits, moves};
 ghost use Rattle.block_core.specs.Stands.{Stands};
 ghost use Rattle.block_core.specs.Runs.{Runs};
-ghost use Rattle.block_core.proofs.Unique.{same_wish};
+ghost use Rattle.block_core.proofs.Unique.{same-wish};
 ghost use Rattle.space_reducer.specs.MatrixSteps.{matrix_steps, matrix_wants, beneath_took, behind_row, last_put, row_resumed, row_kept, next_outer, row_opened, flush, next_put, ended};
 
 use crate::sums::{Sums, sum_token, value_in};
@@ -318,7 +318,7 @@ impl BlockStep for MatrixReducer {
 
     ghost stands_within = { λ b s n h. h.within };
 
-    ghost agrees = { λ b s r n h k a. same_wish _ _ n (moves SumMatrixKind s) (moves SumMatrixKind r) h.rest k.rest a };
+    ghost agrees = { λ b s r n h k a. same-wish _ _ n (moves SumMatrixKind s) (moves SumMatrixKind r) h.rest k.rest a };
 }
 
 #[cfg(test)]

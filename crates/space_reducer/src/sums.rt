@@ -3,7 +3,7 @@
 ghost use Rattle.std.specs.Prelude.{◌≡◌, [], None, OnOk, OnErr, unwrap_or};
 ghost use Rattle.std.specs.Ordering.{nat_cmp};
 ghost use Rattle.std.specs.BTreeMap.{get, insert_entry, IsOrdered};
-ghost use Rattle.block_core.specs.Arithmetic.{combine, Plus};
+ghost use Rattle.block_core.specs.Arithmetic.{combined_leaf, Plus};
 ghost use Rattle.block_core.specs.Gather.{add_at};
 ghost use Rattle.stream_tokens.specs.Nest.{leaf};
 ghost use Rattle.space_reducer.specs.ValueOf.{value_of};
@@ -17,7 +17,7 @@ use stream_tokens::Token;
 /// A sum of two values modulo 2^64, where a value may be absent.
 #[inline]
 fn plus(a: Option<u64>, b: Option<u64>) -> Option<u64>
-    ensures { result ≡ combine Plus a b }
+    ensures { result ≡ combined_leaf Plus a b }
 {
     match (a, b) {
         (Some(a), Some(b)) => Some(a.wrapping_add(b)),
@@ -33,7 +33,7 @@ fn add_into(
     coordinate: u64,
     value: Option<u64>,
 ) -> Result<(), AllocError>
-    ensures ok { OnOk result (map.new.entries ≡ insert_entry nat_cmp map.old.entries coordinate (combine Plus value (unwrap_or (get nat_cmp map.old coordinate) None))) }
+    ensures ok { OnOk result (map.new.entries ≡ insert_entry nat_cmp map.old.entries coordinate (combined_leaf Plus value (unwrap_or (get nat_cmp map.old coordinate) None))) }
     ensures err { OnErr result (map.new.entries ≡ map.old.entries) }
     ensures was_ordered { IsOrdered nat_cmp map.old }
 {
@@ -71,7 +71,7 @@ impl Sums {
     /// Adds a value at a coordinate, which is kept from then on; without memory nothing changes.
     #[inline]
     pub fn add(&mut self, coordinate: u64, value: Option<u64>) -> Result<(), AllocError>
-        ensures ok { OnOk result (self.new ≡ add_at (combine Plus) coordinate value self.old) }
+        ensures ok { OnOk result (self.new ≡ add_at (combined_leaf Plus) coordinate value self.old) }
         ensures err { OnErr result (self.new ≡ self.old) }
     {
         add_into(&mut self.by_coordinate, coordinate, value)

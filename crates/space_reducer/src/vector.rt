@@ -6,7 +6,7 @@ ghost use Rattle.block_core.specs.Ports.{Streams};
 ghost use Rattle.block_core.specs.Kind.{SumVectorKind, Fits, moves};
 ghost use Rattle.block_core.specs.Stands.{Stands};
 ghost use Rattle.block_core.specs.Runs.{Runs};
-ghost use Rattle.block_core.proofs.Unique.{same_wish};
+ghost use Rattle.block_core.proofs.Unique.{same-wish};
 ghost use Rattle.space_reducer.specs.VectorSteps.{vector_steps, vector_wants, coordinate_took, next_put, flush};
 
 use crate::sums::{Sums, sum_token, value_in};
@@ -193,7 +193,7 @@ impl BlockStep for VectorReducer {
 
     ghost stands_within = { λ b s n h. h.within };
 
-    ghost agrees = { λ b s r n h k a. same_wish _ _ n (moves SumVectorKind s) (moves SumVectorKind r) h.rest k.rest a };
+    ghost agrees = { λ b s r n h k a. same-wish _ _ n (moves SumVectorKind s) (moves SumVectorKind r) h.rest k.rest a };
 }
 
 #[cfg(test)]

@@ -14,6 +14,6 @@ is_inside level Done = false
 
 -- The last token but Done of a stream of this depth, and what stands before it: a leaf alone, or the stop of the depth
 -- after any leaves and stops below it.
-abbrev pub Ends : ℕ → Token → List Token → Type 0
-Ends zero end body = (o : Leaf) × (end ≡ leaf o) × (body ≡ [])
-Ends (suc level) end body = (end ≡ Stop level) × (list_all (is_inside level) body ≡ true)
+abbrev pub EndsAtDepth : ℕ → Token → List Token → Type 0
+EndsAtDepth zero end body = (o : Leaf) × (end ≡ leaf o) × (body ≡ [])
+EndsAtDepth (suc level) end body = (end ≡ Stop level) × (list_all (is_inside level) body ≡ true)

@@ -5,9 +5,9 @@ use Rattle.stream_tokens.specs.declared.Token.{Token}
 use Rattle.stream_tokens.specs.declared.Token.TheVariants.{Item, Empty, Stop, Done}
 
 -- the tokens of a fiber's elements, before what follows
-abbrev pub written : {A : Type 0} → (A → Token) → List A → List Token → List Token
-written t [] rest = rest
-written t (x ∷ xs) rest = t x ∷ written t xs rest
+abbrev pub fiber_tokens : {A : Type 0} → (A → Token) → List A → List Token → List Token
+fiber_tokens t [] rest = rest
+fiber_tokens t (x ∷ xs) rest = t x ∷ fiber_tokens t xs rest
 
 -- the stop of a close number, before what follows
 abbrev pub closed : ℕ → List Token → List Token
@@ -17,7 +17,7 @@ closed (suc k) rest = Stop k ∷ rest
 -- the stream of a list of fibers, whose elements are written by t
 abbrev pub flat : {A : Type 0} → (A → Token) → List (Fiber A) → List Token
 flat t [] = Done ∷ []
-flat t (f ∷ fs) = written t f.0 (closed f.1 (flat t fs))
+flat t (f ∷ fs) = fiber_tokens t f.0 (closed f.1 (flat t fs))
 
 -- a leaf before the fibers of the rest
 abbrev pub put_leaf : Leaf → List (Fiber Leaf) → List (Fiber Leaf)

@@ -23,6 +23,13 @@ abbrev pub leaf : Leaf → Token
 leaf None = Empty
 leaf (Some n) = Item n
 
+-- the leaf of a token, where a stop and the end hold nothing
+abbrev pub leaf_of : Token → Leaf
+leaf_of (Item n) = Some n
+leaf_of Empty = None
+leaf_of (Stop n) = None
+leaf_of Done = None
+
 -- the bodies of neighbours, with a stop between them
 abbrev pub between : Token → List (List Token) → List Token
 between s [] = []
@@ -30,22 +37,22 @@ between s (x ∷ []) = x
 between s (x ∷ y ∷ xs) = x ++ (s ∷ between s (y ∷ xs))
 
 -- the body of a list of trees of depth k, which are written by b
-abbrev pub joined : {A : Type 0} → ℕ → (A → List Token) → List A → List Token
-joined zero b ts = flat_map b ts
-joined (suc k) b ts = between (Stop k) (map b ts)
+abbrev pub joined_bodies : {A : Type 0} → ℕ → (A → List Token) → List A → List Token
+joined_bodies zero b ts = flat_map b ts
+joined_bodies (suc k) b ts = between (Stop k) (map b ts)
 
 -- the body of a tree of depth d, whose leaves are trees of depth k that are written by b
 abbrev pub body : {A : Type 0} → (d k : ℕ) → (A → List Token) → Nest A d → List Token
 body zero k b t = b t
-body {A = A} (suc d) k b t = body {A = List A} d (suc k) (joined k b) t
+body {A = A} (suc d) k b t = body {A = List A} d (suc k) (joined_bodies k b) t
 
-abbrev pub end_of : ℕ → List Token
-end_of zero = Done ∷ []
-end_of (suc d) = Stop d ∷ Done ∷ []
+abbrev pub stream_end : ℕ → List Token
+stream_end zero = Done ∷ []
+stream_end (suc d) = Stop d ∷ Done ∷ []
 
 -- the stream of a tree of depth d
 abbrev pub stream : (d : ℕ) → Nest Leaf d → List Token
-stream d t = body d 0 (λ o. leaf o ∷ []) t ++ end_of d
+stream d t = body d 0 (λ o. leaf o ∷ []) t ++ stream_end d
 
 -- a list of tokens is the stream of some tree of depth d
 abbrev pub HasDepth : ℕ → List Token → Type 0

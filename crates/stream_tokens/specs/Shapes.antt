@@ -40,15 +40,15 @@ beside (a ∷ xs) [] = []
 beside (a ∷ xs) (g ∷ gs) = (a, g.0) ∷ beside xs gs
 
 -- the inner fibers after those of one outer fiber
-abbrev pub past : {A B : Type 0} → List A → List (Fiber B) → List (Fiber B)
-past [] gs = rest gs
-past (a ∷ []) gs = rest gs
-past (a ∷ b ∷ xs) gs = past (b ∷ xs) (rest gs)
+abbrev pub fibers_past : {A B : Type 0} → List A → List (Fiber B) → List (Fiber B)
+fibers_past [] gs = rest gs
+fibers_past (a ∷ []) gs = rest gs
+fibers_past (a ∷ b ∷ xs) gs = fibers_past (b ∷ xs) (rest gs)
 
 -- an inner stream that lies beneath an outer one, beside its tokens
 abbrev pub split : {A B : Type 0} → List (Fiber A) → List (Fiber B) → List (Fiber (A × List B))
 split [] gs = []
-split (f ∷ fs) gs = (beside f.0 gs, f.1) ∷ split fs (past f.0 gs)
+split (f ∷ fs) gs = (beside f.0 gs, f.1) ∷ split fs (fibers_past f.0 gs)
 
 -- cut after each stop above 0: the pieces as fibers of fibers
 abbrev pub put_first : {A : Type 0} → List A → List (Fiber (List A)) → List (Fiber (List A))

@@ -3,7 +3,7 @@
 ghost use Rattle.std.specs.Prelude.{◌≡◌, ◌↔◌, IsTrue};
 ghost use Rattle.std.specs.List.{list_all};
 ghost use Rattle.stream_tokens.specs.Nest.{HasDepth};
-ghost use Rattle.stream_tokens.specs.Body.{is_inside, Ends};
+ghost use Rattle.stream_tokens.specs.Body.{is_inside, EndsAtDepth};
 
 use crate::{Stream, Token};
 
@@ -27,7 +27,7 @@ fn is_body(tokens: &[Token], level: u8) -> bool
 
 /// Whether a stream of this depth may have this last token before `Done`, and these tokens before that.
 fn ends_well(body: &[Token], end: Token, depth: u8) -> bool
-    ensures { IsTrue result ↔ Ends depth end body.now }
+    ensures { IsTrue result ↔ EndsAtDepth depth end body.now }
 {
     match end {
         Token::Item(_) | Token::Empty => depth == 0 && body.is_empty(),

@@ -4,6 +4,9 @@
 //! a stop of level n where n + 1 lists end together, and one last token.
 #![tactic(auto)]
 
+ghost use Rattle.std.specs.Prelude.{◌≡◌};
+ghost use Rattle.stream_tokens.specs.Nest.{leaf, leaf_of};
+
 mod depth;
 mod stream;
 mod text;
@@ -23,4 +26,32 @@ pub enum Token {
     Stop(u8),
     /// The end of the stream.
     Done,
+}
+
+impl Token {
+    /// The number that a token holds, if it holds one.
+    #[inline]
+    pub fn value(self) -> Option<u64>
+        ensures { result ≡ leaf_of self }
+    {
+        match self {
+            Token::Item(value) => Some(value),
+            _ => None,
+        }
+    }
+}
+
+/// A leaf as a token: an item, or an empty token.
+impl From<Option<u64>> for Token {
+    ghost from_gives = { λ value t. t ≡ leaf value };
+
+    #[inline]
+    fn from(value: Option<u64>) -> Token
+        ensures { result ≡ leaf value }
+    {
+        match value {
+            Some(value) => Token::Item(value),
+            None => Token::Empty,
+        }
+    }
 }

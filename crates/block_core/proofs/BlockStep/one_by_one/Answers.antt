@@ -1,5 +1,5 @@
 use Rattle.std.proofs.Common.{◌≡◌, slice_get, sym, ◌∙◌, refl, ap, [], Ok, Some, Bool, false, true}
-use Rattle.block_core.proofs.Pouring.{first_is, poured_none, poured_take, poured_put, poured_still, poured_some, may_then, may_take_next, may_take, may_put_next, may_put, always_err}
+use Rattle.block_core.proofs.Pouring.{first-is, poured_none, poured_take, poured_put, poured_still, poured_some, may_then, may_take_next, may_take, may_put_next, may_put, always-err}
 use Rattle.block_core.specs.Bursts.{Poured, MayPour}
 use Rattle.block_core.proofs.BlockStep.one_by_one.Goals as goal
 use Rattle.block_core.proofs.BlockStep.one_by_one.Goals.{in-Take+in-Some+in_ok-take-in-Take, in-Put+in_ok-put-in-Put+else-not-branch}
@@ -21,7 +21,7 @@ front-requires g c =
 pub take-requires : goal.take-requires
 take-requires g c =
     may_take g.Self.BlockStep.kind g.Self.BlockStep.stands g.P.Ports.fed g.P.Ports.did c.loop.self c.loop.ports c.loop.invariant.may
-    (λ p q. slice_get (g.P.Ports.waits p q) 0) (first_is g.P.Ports.fed g.P.Ports.waits g.met.P.Ports.comes) c.in-Take.port c.in-Some.t
+    (λ p q. slice_get (g.P.Ports.waits p q) 0) (first-is g.P.Ports.fed g.P.Ports.waits g.met.P.Ports.comes) c.in-Take.port c.in-Some.t
     (λ s n st. sym c.in-Take.is ∙ c.wish.ensures s n st) (sym c.front.ensures ∙ c.in-Some.is)
 
 pub pop-requires-clause-may : goal.pop-requires-clause-may
@@ -45,7 +45,7 @@ returns-in_err-put-in-Put-clause-refused g c =
     let part : Poured g.Self.BlockStep.kind g.Self.BlockStep.stands g.P.Ports.fed g.P.Ports.did c.args.self.now c.args.ports.now c.loop.self c.put.new.self false =
     poured_some g.Self.BlockStep.kind g.Self.BlockStep.stands g.P.Ports.fed g.P.Ports.did c.args.self.now c.args.ports.now c.loop.self c.put.new.self c.loop.went
     (poured_still g.Self.BlockStep.kind g.Self.BlockStep.stands g.P.Ports.fed g.P.Ports.did g.met.P.Ports.did_then c.args.self.now c.args.ports.now c.loop.self c.loop.ports c.loop.went c.put.new.self c.loop.invariant.poured ports) in
-    always_err _ part
+    always-err _ part
 
 pub returns-then-not-branch-clause-poured : goal.returns-then-not-branch-clause-poured
 returns-then-not-branch-clause-poured g c =
@@ -59,7 +59,7 @@ loop-preserved g c = elim c.match-wish.branch [
       let same = w.in_ok-take-in-Take.ensures.same_kind ∙ c.loop.invariant.same_kind in
       let front = sym w.front.ensures ∙ w.in-Some.is in
       let more : Poured g.Self.BlockStep.kind g.Self.BlockStep.stands g.P.Ports.fed g.P.Ports.did c.args.self.now c.args.ports.now w.take.new.self w.pop.new.self true =
-      poured_take g.Self.BlockStep.kind g.Self.BlockStep.stands g.P.Ports.fed g.P.Ports.did (λ p q. slice_get (g.P.Ports.waits p q) 0) (first_is g.P.Ports.fed g.P.Ports.waits g.met.P.Ports.comes) g.met.P.Ports.fed_after g.met.P.Ports.did_then
+      poured_take g.Self.BlockStep.kind g.Self.BlockStep.stands g.P.Ports.fed g.P.Ports.did (λ p q. slice_get (g.P.Ports.waits p q) 0) (first-is g.P.Ports.fed g.P.Ports.waits g.met.P.Ports.comes) g.met.P.Ports.fed_after g.met.P.Ports.did_then
       c.args.self.now c.args.ports.now c.loop.self c.loop.ports c.loop.went w.take.new.self w.pop.new.self w.in-Take.port w.in-Some.t
       c.loop.invariant.same_kind c.loop.invariant.poured
       (λ s n st. sym w.in-Take.is ∙ c.wish.ensures s n st) front w.in_ok-take-in-Take.ensures.moved (w.pop.ensures.taken w.in-Some.t front) in

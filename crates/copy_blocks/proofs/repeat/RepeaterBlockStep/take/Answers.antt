@@ -1,6 +1,6 @@
-use Rattle.block_core.proofs.Standing.{stands_take}
+use Rattle.block_core.proofs.Standing.{stands-take}
 use Rattle.copy_blocks.specs.RepeatSteps.{repeat_steps}
 use Rattle.copy_blocks.proofs.repeat.RepeaterBlockStep.take.Goals as goal
 
 pub returns-clause-moved : goal.returns-clause-moved
-returns-clause-moved c = λ s n h at. stands_take repeat_steps _ _ _ s n _ _ c.took-self.ensures at h
+returns-clause-moved c = λ s n h at. stands-take repeat_steps _ _ _ s n _ _ c.took-self.ensures at h

@@ -1,6 +1,6 @@
-use Rattle.block_core.proofs.Standing.{stands_put}
+use Rattle.block_core.proofs.Standing.{stands-put}
 use Rattle.shape_blocks.specs.DropValueSteps.{drop_value_steps}
 use Rattle.shape_blocks.proofs.drop_value.ValueDropperBlockStep.did_put.Goals as goal
 
 pub returns-clause-moved : goal.returns-clause-moved
-returns-clause-moved c = λ s n port t h at. stands_put drop_value_steps _ _ _ s n port t c.put-self.ensures at h
+returns-clause-moved c = λ s n port t h at. stands-put drop_value_steps _ _ _ s n port t c.put-self.ensures at h

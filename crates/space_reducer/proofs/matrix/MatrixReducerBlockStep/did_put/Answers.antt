@@ -1,6 +1,6 @@
-use Rattle.block_core.proofs.Standing.{stands_put}
+use Rattle.block_core.proofs.Standing.{stands-put}
 use Rattle.space_reducer.specs.MatrixSteps.{matrix_steps}
 use Rattle.space_reducer.proofs.matrix.MatrixReducerBlockStep.did_put.Goals as goal
 
 pub returns-clause-moved : goal.returns-clause-moved
-returns-clause-moved c = λ s n port t h at. stands_put matrix_steps _ _ _ s n port t c.put.ensures at h
+returns-clause-moved c = λ s n port t h at. stands-put matrix_steps _ _ _ s n port t c.put.ensures at h

@@ -1,7 +1,7 @@
 use Rattle.std.proofs.lemmas.Result.{IfOk-weaker}
-use Rattle.block_core.proofs.Standing.{stands_take}
+use Rattle.block_core.proofs.Standing.{stands-take}
 use Rattle.space_reducer.specs.VectorSteps.{vector_steps}
 use Rattle.space_reducer.proofs.vector.VectorReducerBlockStep.take.Goals as goal
 
 pub returns-clause-moved : goal.returns-clause-moved
-returns-clause-moved c = IfOk-weaker c.took.result _ _ (λ u e s n h at. stands_take vector_steps _ _ _ s n _ _ e at h) c.took.ensures.ok
+returns-clause-moved c = IfOk-weaker c.took.result _ _ (λ u e s n h at. stands-take vector_steps _ _ _ s n _ _ e at h) c.took.ensures.ok

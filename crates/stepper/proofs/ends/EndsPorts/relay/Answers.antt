@@ -1,7 +1,7 @@
 use Rattle.std.proofs.Common.{ℕ, ◌≡◌, ◌≤◌, ◌∙◌, ap, refl, length, take, arith, false, true, Ok}
 use Rattle.stream_tokens.specs.declared.Token.TheVariants.{Item}
 use Rattle.block_core.specs.Bursts.{relayed}
-use Rattle.block_core.proofs.Pouring.{always_err}
+use Rattle.block_core.proofs.Pouring.{always-err}
 use Rattle.plays.specs.Rest.{MadeAt, waits_at}
 use Rattle.plays.proofs.Rests.{same_none, same_then, some_read, relayed_start, relay_first, relay_may, relayed_next, relayed_still}
 use Rattle.stepper.proofs.ends.EndsPorts.relay.Goals as goal
@@ -39,4 +39,4 @@ returns-in_err-relay_one-clause-refused g c =
     let made : MadeAt (record { queues = c.args.self.now.queues.now.items; told = g.T.Tap.told c.args.self.now.tap.now; moves = c.args.self.now.moves; block = c.args.self.now.block; ins = c.args.self.now.ins.now; outs = c.args.self.now.outs.now }) (relayed c.args.from c.args.to (take c.loop-i.i (waits_at (record { queues = c.args.self.now.queues.now.items; told = g.T.Tap.told c.args.self.now.tap.now; moves = c.args.self.now.moves; block = c.args.self.now.block; ins = c.args.self.now.ins.now; outs = c.args.self.now.outs.now }) c.args.from)) (take c.loop-i.i c.args.out.now)) (record { queues = c.relay_one.new.self.queues.now.items; told = g.T.Tap.told c.relay_one.new.self.tap.now; moves = c.relay_one.new.self.moves; block = c.relay_one.new.self.block; ins = c.relay_one.new.self.ins.now; outs = c.relay_one.new.self.outs.now }) =
     relayed_still (record { queues = c.args.self.now.queues.now.items; told = g.T.Tap.told c.args.self.now.tap.now; moves = c.args.self.now.moves; block = c.args.self.now.block; ins = c.args.self.now.ins.now; outs = c.args.self.now.outs.now }) c.args.from c.args.to c.args.out.now c.loop-i.i (record { queues = c.loop-i.self.queues.now.items; told = g.T.Tap.told c.loop-i.self.tap.now; moves = c.loop-i.self.moves; block = c.loop-i.self.block; ins = c.loop-i.self.ins.now; outs = c.loop-i.self.outs.now }) (record { queues = c.relay_one.new.self.queues.now.items; told = g.T.Tap.told c.relay_one.new.self.tap.now; moves = c.relay_one.new.self.moves; block = c.relay_one.new.self.block; ins = c.relay_one.new.self.ins.now; outs = c.relay_one.new.self.outs.now }) c.loop-i.invariant.relayed c.in_err-relay_one.ensures.refused in
     let part : (k : ℕ) × (k ≤ length c.args.out.now) × MadeAt (record { queues = c.args.self.now.queues.now.items; told = g.T.Tap.told c.args.self.now.tap.now; moves = c.args.self.now.moves; block = c.args.self.now.block; ins = c.args.self.now.ins.now; outs = c.args.self.now.outs.now }) (relayed c.args.from c.args.to (take k (waits_at (record { queues = c.args.self.now.queues.now.items; told = g.T.Tap.told c.args.self.now.tap.now; moves = c.args.self.now.moves; block = c.args.self.now.block; ins = c.args.self.now.ins.now; outs = c.args.self.now.outs.now }) c.args.from)) (take k c.args.out.now)) (record { queues = c.relay_one.new.self.queues.now.items; told = g.T.Tap.told c.relay_one.new.self.tap.now; moves = c.relay_one.new.self.moves; block = c.relay_one.new.self.block; ins = c.relay_one.new.self.ins.now; outs = c.relay_one.new.self.outs.now }) = (c.loop-i.i, l, made) in
-    always_err _ part
+    always-err _ part
