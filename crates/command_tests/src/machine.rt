@@ -3,8 +3,8 @@
 ghost use Rattle.std.specs.Prelude.{◌≡◌, ◌≤◌, List, true, length, IfOk};
 ghost use Rattle.sam_model.specs.declared.tensors.Entries.{Entries};
 ghost use Rattle.sam_model.specs.Accepted.{accepted};
-ghost use Rattle.stepper.specs.Capacity.{InRange};
 ghost use Rattle.inputs.specs.Tensors.{AreStored};
+ghost use Rattle.stepper.specs.Capacity.{IsCapacity};
 
 use crate::cases::{PRODUCT, VECTORS, files, name, prints};
 use inputs::{program, storages};
@@ -42,7 +42,7 @@ fn machine<'a>(
 ) -> Result<Machine<AnyBlock<'a>>, Fail>
     requires accepted { accepted p.now ≡ true }
     requires stored { (entries : List Entries) × AreStored p.now.tensors entries storages.now }
-    requires capacity { InRange capacity }
+    requires capacity { IsCapacity capacity }
     ensures blocks { IfOk result (λ m. length m.blocks ≡ 11) }
     ensures queues { IfOk result (λ m. length m.queues ≡ 15) }
 {
@@ -59,7 +59,7 @@ fn machine<'a>(
 
 /// The number of events until every block is finished, if the run comes there.
 fn events(alloc: Global, capacity: Option<u32>) -> Result<Option<u64>, Fail>
-    requires { InRange capacity }
+    requires { IsCapacity capacity }
 {
     let (program, storages) = product(alloc)?;
     let mut run = machine(alloc, &program, storages.as_slice(), capacity)?;

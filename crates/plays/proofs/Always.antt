@@ -5,7 +5,7 @@ use Rattle.std.proofs.lemmas.Bool.{cases_eq, cases_lt, ltb-true}
 use Rattle.std.proofs.lemmas.Option.{slice_get_within}
 use Rattle.stream_tokens.specs.declared.Token.{Token}
 use Rattle.block_core.specs.Move.{Move, Taking, Putting}
-use Rattle.plays.specs.Net.{Net, Rooms, State, Wired, Kept, Fits, Reached, raise, sent, got, waiting, has_room, can_move, can, turn, play, start}
+use Rattle.plays.specs.Net.{Net, Rooms, State, Wired, WithinBounds, WithinLimit, Reached, PlaysTo, raise, sent, got, waiting, has_room, can_move, can, turn, play, start}
 use Rattle.plays.proofs.Event.{raise_here, raise_there, by_one, sent_put, sent_put_there, got_put, got_take, got_take_there, sent_take}
 
 -- ---- turns and plays
@@ -46,6 +46,9 @@ pub play_reached : (net : Net) (rooms : Rooms) (s : State) (schedule : List ℕ)
 play_reached net rooms s schedule r =
     (r.0 ++ schedule, ap (λ (x : State). play net rooms x schedule) r.1 ∙ sym (play_append net rooms start r.0 schedule))
 
+pub stays-reached : (net : Net) (rooms : Rooms) (s t : State) → Reached net rooms s → PlaysTo net rooms s t → Reached net rooms t
+stays-reached net rooms s t r p = subst (Reached net rooms) (sym p.1) (play_reached net rooms s p.0 r)
+
 pub event_reached : (net : Net) (rooms : Rooms) (s : State) (b : ℕ) → can net rooms s b ≡ true → Reached net rooms s → Reached net rooms (raise b s)
 event_reached net rooms s b e r = subst (Reached net rooms) (turn_made net rooms s b e) (play_reached net rooms s (b ∷ []) r)
 
@@ -82,17 +85,17 @@ in_net net rooms s b w h = elim (cases_lt b net.blocks) [
 
 -- ---- what is kept
 
-fits_less : (o : Option ℕ) (n m : ℕ) → m ≤ n → Fits o n → Fits o m
+fits_less : (o : Option ℕ) (n m : ℕ) → m ≤ n → WithinLimit o n → WithinLimit o m
 fits_less None n m l h = tt
 fits_less (Some room) n m l h = omega (arith, l, h)
 
-fits_more : (o : Option ℕ) (n m : ℕ) → m ≡ suc n → has_room o n ≡ true → Fits o m
+fits_more : (o : Option ℕ) (n m : ℕ) → m ≡ suc n → has_room o n ≡ true → WithinLimit o m
 fits_more None n m e h = tt
 fits_more (Some room) n m e h = omega (arith, e, ltb-true n room h)
 
 -- a channel holds no more than was put on it, and no more than it may
 abbrev KeptAt : Net → Rooms → State → ℕ → Type 0
-KeptAt net rooms s c = (length (got net s c) ≤ length (sent net s c)) × Fits (rooms c) (waiting net s c)
+KeptAt net rooms s c = (length (got net s c) ≤ length (sent net s c)) × WithinLimit (rooms c) (waiting net s c)
 
 kept_same : (net : Net) (rooms : Rooms) (s t : State) (c : ℕ) → sent net t c ≡ sent net s c → got net t c ≡ got net s c
     → KeptAt net rooms s c → KeptAt net rooms t c
@@ -136,7 +139,7 @@ kept_at net rooms s b c w h l k = elim (possible net rooms s b h) [
 ]
 
 -- a possible event keeps what holds of reached states, and so do a turn and a play
-pub event_kept : (net : Net) (rooms : Rooms) → Wired net → (s : State) (b : ℕ) → Kept net rooms s → can net rooms s b ≡ true → Kept net rooms (raise b s)
+pub event_kept : (net : Net) (rooms : Rooms) → Wired net → (s : State) (b : ℕ) → WithinBounds net rooms s → can net rooms s b ≡ true → WithinBounds net rooms (raise b s)
 event_kept net rooms w s b k h =
     let at : (c : ℕ) → c < net.channels → KeptAt net rooms (raise b s) c = λ c l. kept_at net rooms s b c w h l (k.order c l, k.room c l) in
     record {
@@ -146,22 +149,22 @@ event_kept net rooms w s b k h =
       room = λ c l. (at c l).1;
     }
 
-pub turn_kept : (net : Net) (rooms : Rooms) (s : State) (b : ℕ) → Wired net → Kept net rooms s → Kept net rooms (turn net rooms s b)
-turn_kept net rooms s b w k = turn_keeps (Kept net rooms) net rooms (event_kept net rooms w) s b k
+pub turn_kept : (net : Net) (rooms : Rooms) (s : State) (b : ℕ) → Wired net → WithinBounds net rooms s → WithinBounds net rooms (turn net rooms s b)
+turn_kept net rooms s b w k = turn_keeps (WithinBounds net rooms) net rooms (event_kept net rooms w) s b k
 
-pub play_kept : (net : Net) (rooms : Rooms) (s : State) (schedule : List ℕ) → Wired net → Kept net rooms s → Kept net rooms (play net rooms s schedule)
-play_kept net rooms s schedule w k = play_keeps (Kept net rooms) net rooms (event_kept net rooms w) s schedule k
+pub play_kept : (net : Net) (rooms : Rooms) (s : State) (schedule : List ℕ) → Wired net → WithinBounds net rooms s → WithinBounds net rooms (play net rooms s schedule)
+play_kept net rooms s schedule w k = play_keeps (WithinBounds net rooms) net rooms (event_kept net rooms w) s schedule k
 
-fits_none : (o : Option ℕ) → Fits o 0
+fits_none : (o : Option ℕ) → WithinLimit o 0
 fits_none None = tt
 fits_none (Some room) = omega arith
 
-pub start_kept : (net : Net) (rooms : Rooms) → Kept net rooms start
+pub start_kept : (net : Net) (rooms : Rooms) → WithinBounds net rooms start
 start_kept net rooms = record {
   within = λ b. omega arith;
   order = λ c l. omega arith;
   room = λ c l. fits_none (rooms c);
 }
 
-pub always-kept : (net : Net) (rooms : Rooms) (s : State) → Wired net → Reached net rooms s → Kept net rooms s
-always-kept net rooms s w r = reached_keeps (Kept net rooms) net rooms (event_kept net rooms w) (start_kept net rooms) s r
+pub always-kept : (net : Net) (rooms : Rooms) (s : State) → Wired net → Reached net rooms s → WithinBounds net rooms s
+always-kept net rooms s w r = reached_keeps (WithinBounds net rooms) net rooms (event_kept net rooms w) (start_kept net rooms) s r

@@ -5,7 +5,7 @@ use Rattle.std.proofs.lemmas.Bool.{cases_eq}
 use Rattle.std.proofs.lemmas.Option.{slice_get-get_or}
 use Rattle.block_core.specs.Move.{Move, Taking, Putting, takes, puts}
 use Rattle.stream_tokens.specs.declared.Token.TheVariants.{Done}
-use Rattle.plays.specs.Net.{Net, State, Wired, Finished, sum_below, raise, start, whole, sent, got}
+use Rattle.plays.specs.Net.{Net, State, Wired, Finished, sum_below, raise, start, stream_on, sent, got}
 use Rattle.plays.proofs.Event.{raise_here, raise_there, sent_put, sent_put_there, got_put, got_take, got_take_there, sent_take}
 use Rattle.plays.proofs.Sums.{sum_same, sum_one_more, raise_sum, sum_zero, sum_double}
 use Rattle.plays.proofs.Finishing.{all_sent, all_got}
@@ -92,9 +92,9 @@ each-counts net s w within =
     counted_same net (made_by net.blocks s) s w (λ b l. sym (all_made net.blocks s b l)) (counted_made net s net.blocks w (omega arith) within)
 
 pub twice-each : (net : Net) (s : State) → Wired net → Finished net s
-    → sum_below net.blocks s ≡ 2 * sum_below net.channels (λ c. length (whole net c))
+    → sum_below net.blocks s ≡ 2 * sum_below net.channels (λ c. length (stream_on net c))
 twice-each net s w done =
     each-counts net s w (λ b l. omega (arith, done b l))
-    ∙ sum_same net.channels (λ c. length (whole net c) + length (whole net c)) (passed net s)
+    ∙ sum_same net.channels (λ c. length (stream_on net c) + length (stream_on net c)) (passed net s)
     (λ c l. omega (arith, ap length (all_sent net s c (done (net.sender c) (w.came c l).1)), ap length (all_got net s c w l (done (net.receiver c) (w.received c l).1))))
-    ∙ sum_double net.channels (λ c. length (whole net c))
+    ∙ sum_double net.channels (λ c. length (stream_on net c))

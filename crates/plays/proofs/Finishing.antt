@@ -5,25 +5,25 @@ use Rattle.std.proofs.Math.Seq.{take-length}
 use Rattle.std.proofs.lemmas.Bool.{cases_lt, lt-ltb, both_ways}
 use Rattle.stream_tokens.specs.declared.Token.{Token}
 use Rattle.block_core.specs.Move.{Move, Taking, Putting, takes, puts}
-use Rattle.plays.specs.Net.{Net, Rooms, State, Wired, Kept, Stuck, Finished, Reached, AtMost, Forwards, WholeRoom, whole, sent, got, waiting, has_room, can_move, can, raise}
+use Rattle.plays.specs.Net.{Net, Rooms, State, Wired, WithinBounds, Stuck, Finished, Reached, AtMost, Forwards, WholeRoom, stream_on, sent, got, waiting, has_room, can_move, can, raise}
 use Rattle.plays.proofs.Event.{sent_put}
 use Rattle.plays.proofs.Waiting.{sent_whole, next_of_whole}
 use Rattle.plays.proofs.Always.{always-kept}
 
 -- where a block has made all its moves, all is put on its channels and all is taken from them
-pub all_sent : (net : Net) (s : State) (c : ℕ) → s (net.sender c) ≡ length (net.moves (net.sender c)) → sent net s c ≡ whole net c
+pub all_sent : (net : Net) (s : State) (c : ℕ) → s (net.sender c) ≡ length (net.moves (net.sender c)) → sent net s c ≡ stream_on net c
 all_sent net s c e =
     ap (λ n. puts (net.sent_at c) (take n (net.moves (net.sender c)))) e ∙ ap (puts (net.sent_at c)) (take-length (net.moves (net.sender c)))
 
 pub all_got : (net : Net) (s : State) (c : ℕ) → Wired net → c < net.channels → s (net.receiver c) ≡ length (net.moves (net.receiver c))
-    → got net s c ≡ whole net c
+    → got net s c ≡ stream_on net c
 all_got net s c w l e =
     ap (λ n. takes (net.received_at c) (take n (net.moves (net.receiver c)))) e
     ∙ ap (takes (net.received_at c)) (take-length (net.moves (net.receiver c))) ∙ sym (w.same c l)
 
 -- before a put fewer tokens than the whole stream were put, and before a take fewer were taken
 before_put : (net : Net) (s : State) (b p : ℕ) (t : Token) → Wired net → slice_get (net.moves b) (s b) ≡ Some (Putting p t)
-    → length (sent net s (net.out_of b p)) < length (whole net (net.out_of b p))
+    → length (sent net s (net.out_of b p)) < length (stream_on net (net.out_of b p))
 before_put net s b p t w e =
     let c = net.out_of b p in
     let rest : List Token = puts (net.sent_at c) (drop (raise b s (net.sender c)) (net.moves (net.sender c))) in
@@ -36,9 +36,9 @@ before_put net s b p t w e =
     )
 
 before_take : (net : Net) (s : State) (b p : ℕ) (t : Token) → Wired net → slice_get (net.moves b) (s b) ≡ Some (Taking p t)
-    → length (got net s (net.into b p)) < length (whole net (net.into b p))
+    → length (got net s (net.into b p)) < length (stream_on net (net.into b p))
 before_take net s b p t w e =
-    let l : (rest : List Token) × (whole net (net.into b p) ≡ got net s (net.into b p) ++ t ∷ rest) = next_of_whole net s b p t w e in
+    let l : (rest : List Token) × (stream_on net (net.into b p) ≡ got net s (net.into b p) ++ t ∷ rest) = next_of_whole net s b p t w e in
     omega (arith, ap length l.1, length-append (got net s (net.into b p)) (t ∷ l.0))
 
 room_within : (o : Option ℕ) (n m : ℕ) → AtMost (Some n) o → m < n → has_room o m ≡ true
@@ -66,11 +66,11 @@ has_event net rooms s b w room senders l = by_move (slice_get (net.moves b) (s b
     by_move (Some (Putting p t)) e =
         let c = net.out_of b p in
         let at = w.put b (s b) p t e in
-        room_within (rooms c) (length (whole net c)) (waiting net s c) (room c at.2) (omega (arith, before_put net s b p t w e))
+        room_within (rooms c) (length (stream_on net c)) (waiting net s c) (room c at.2) (omega (arith, before_put net s b p t w e))
 
 -- the blocks of lower rank first
 finished_below : (net : Net) (rooms : Rooms) (rank : ℕ → ℕ) (s : State) → Wired net → Forwards net rank → WholeRoom net rooms
-    → Kept net rooms s → Stuck net rooms s → (r b : ℕ) → rank b < r → b < net.blocks → s b ≡ length (net.moves b)
+    → WithinBounds net rooms s → Stuck net rooms s → (r b : ℕ) → rank b < r → b < net.blocks → s b ≡ length (net.moves b)
 finished_below net rooms rank s w forwards room kept stuck zero b k l = absurd (omega (arith, k))
 finished_below net rooms rank s w forwards room kept stuck (suc r) b k l = elim (cases_lt (s b) (length (net.moves b))) [
   | inr all ↦ omega (arith, all, kept.within b)

@@ -11,3 +11,4 @@ mod Worked
 pub mod Lists
 pub mod Tellings
 pub mod Rests
+pub mod Relays

@@ -1,26 +1,23 @@
 -- What a tap is told.
-use Rattle.std.specs.Prelude.{◌≡◌, ◌<◌, ◌≤◌, ℕ, ◌+◌, ◌-◌, Bool, true, false, not, nat_lt, List, [], ◌∷◌, ◌++◌, length, take, drop, set, slice_get, get_or, Option, Some, None, refl}
+use Rattle.std.specs.Prelude.{◌≡◌, ◌<◌, ◌≤◌, ℕ, ◌-◌, Bool, true, false, not, nat_lt, List, [], ◌∷◌, ◌++◌, length, take, drop, set, slice_get, get_or, Some, None, refl}
 use Rattle.std.proofs.Common.{arith, sym, ◌∙◌, ap, subst, append-nil, append_assoc, length-append, get_or-set_same, get_or-set_other, inl, inr}
 use Rattle.std.proofs.lemmas.Bool.{cases_eq}
 use Rattle.std.proofs.lemmas.Bool.Decides.{nat_tests}
 use Rattle.std.proofs.lemmas.List.{length-set}
 use Rattle.stream_tokens.specs.declared.Token.{Token}
-use Rattle.block_core.specs.Move.{Move, Taking, Putting}
+use Rattle.block_core.specs.Move.{Taking, Putting}
 use Rattle.std.proofs.Math.Seq.{take-append_seam}
 use Rattle.plays.specs.Held.{Queued}
 use Rattle.plays.proofs.Lists.{set_twice, set_same}
 use Rattle.plays.specs.Net.{Net, State, Wired, raise}
-use Rattle.plays.specs.Told.{Grew, GrewAt, one_told, HasLists}
+use Rattle.plays.specs.Told.{Tapped, Grew, GrewAt, one_told, HasLists}
 use Rattle.plays.proofs.Event.{sent_put, sent_put_there, sent_take}
 
-abbrev Lists : Type 0
-Lists = Option (List (List Token))
-
-pub grew_same : (net : Net) (s : State) (told : Lists) → Grew net s s told told
+pub grew_same : (net : Net) (s : State) (told : Tapped) → Grew net s s told told
 grew_same net s None = tt
 grew_same net s (Some ts) = (refl, λ c l. ([], sym (append-nil _), sym (append-nil (get_or ts c []))), λ c l. refl)
 
-pub grew_then : (net : Net) (s t u : State) (x y z : Lists) → Grew net s t x y → Grew net t u y z → Grew net s u x z
+pub grew_then : (net : Net) (s t u : State) (x y z : Tapped) → Grew net s t x y → Grew net t u y z → Grew net s u x z
 grew_then net s t u None None None a b = tt
 grew_then net s t u None None (Some z) a b = absurd b
 grew_then net s t u None (Some y) z a b = absurd a
@@ -39,7 +36,7 @@ grew_then net s t u (Some x) (Some y) (Some z) a b = (
 )
 
 -- a put is told of its own channel alone
-pub told_put : (net : Net) (s : State) (b p : ℕ) (t : Token) (told : Option (List (List Token))) → Wired net → slice_get (net.moves b) (s b) ≡ Some (Putting p t)
+pub told_put : (net : Net) (s : State) (b p : ℕ) (t : Token) (told : Tapped) → Wired net → slice_get (net.moves b) (s b) ≡ Some (Putting p t)
     → HasLists net.channels told → Grew net s (raise b s) told (one_told (net.out_of b p) t told)
 told_put net s b p t None w e lists = tt
 told_put net s b p t (Some ts) w e lists =
@@ -63,7 +60,7 @@ told_put net s b p t (Some ts) w e lists =
     )
 
 -- nothing is told of a take
-pub told_take : (net : Net) (s : State) (b p : ℕ) (t : Token) (told : Option (List (List Token))) → slice_get (net.moves b) (s b) ≡ Some (Taking p t)
+pub told_take : (net : Net) (s : State) (b p : ℕ) (t : Token) (told : Tapped) → slice_get (net.moves b) (s b) ≡ Some (Taking p t)
     → Grew net s (raise b s) told told
 told_take net s b p t None e = tt
 told_take net s b p t (Some ts) e = (
@@ -81,14 +78,14 @@ front_length [] t e = absurd (cc)
 front_length (u ∷ q) t e = grind (arith, nat_tests)
 
 -- a tap has as many lists as before
-pub lists_put : (n c : ℕ) (t : Token) (told told' : Option (List (List Token))) → told' ≡ one_told c t told → HasLists n told → HasLists n told'
+pub lists_put : (n c : ℕ) (t : Token) (told told' : Tapped) → told' ≡ one_told c t told → HasLists n told → HasLists n told'
 lists_put n c t told told' e lists = subst (HasLists n) (sym e) (there told lists)
   where
-    there : (told : Option (List (List Token))) → HasLists n told → HasLists n (one_told c t told)
+    there : (told : Tapped) → HasLists n told → HasLists n (one_told c t told)
     there None lists = tt
     there (Some ts) lists = let l = length-set ts c (get_or ts c [] ++ t ∷ []) in omega (arith, l, lists)
 
-pub lists_fewer : (n m : ℕ) (told : Option (List (List Token))) → m ≤ n → HasLists n told → HasLists m told
+pub lists_fewer : (n m : ℕ) (told : Tapped) → m ≤ n → HasLists n told → HasLists m told
 lists_fewer n m None l h = tt
 lists_fewer n m (Some ts) l h = omega (arith, l, h)
 

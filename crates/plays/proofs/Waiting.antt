@@ -6,17 +6,17 @@ use Rattle.std.proofs.lemmas.List.{append_cancel_left}
 use Rattle.stream_tokens.specs.declared.Token.{Token}
 use Rattle.block_core.specs.Move.{Move, Taking, Putting, takes, puts}
 use Rattle.block_core.proofs.Standing.{drop-at}
-use Rattle.plays.specs.Net.{Net, Rooms, State, Wired, raise, whole, sent, got, waiting, queue, has_room, can_move, can, Waits, start}
+use Rattle.plays.specs.Net.{Net, Rooms, State, Wired, raise, sent, got, waiting, queue, has_room, can_move, can, Waits, start, stream_on}
 use Rattle.plays.proofs.Moves.{takes-append, takes_here, takes_split, puts_split}
 use Rattle.plays.proofs.Event.{sent_put, sent_put_there, got_put, got_take, got_take_there, sent_take}
 
 -- what was put is a beginning of the whole stream, and what was taken one of what the other end takes
 pub sent_whole : (net : Net) (s : State) (c : ℕ)
-    → sent net s c ++ puts (net.sent_at c) (drop (s (net.sender c)) (net.moves (net.sender c))) ≡ whole net c
+    → sent net s c ++ puts (net.sent_at c) (drop (s (net.sender c)) (net.moves (net.sender c))) ≡ stream_on net c
 sent_whole net s c = puts_split (net.sent_at c) (s (net.sender c)) (net.moves (net.sender c))
 
 pub got_whole : (net : Net) (s : State) (c : ℕ) → Wired net → c < net.channels
-    → got net s c ++ takes (net.received_at c) (drop (s (net.receiver c)) (net.moves (net.receiver c))) ≡ whole net c
+    → got net s c ++ takes (net.received_at c) (drop (s (net.receiver c)) (net.moves (net.receiver c))) ≡ stream_on net c
 got_whole net s c w l = takes_split (net.received_at c) (s (net.receiver c)) (net.moves (net.receiver c)) ∙ sym (w.same c l)
 
 -- as many wait as the list has
@@ -69,7 +69,7 @@ waits_take_there net s b p t c q w e l other h =
 
 -- what the block's next move takes from the whole stream, and what comes after that
 pub next_of_whole : (net : Net) (s : State) (b p : ℕ) (u : Token) → Wired net → slice_get (net.moves b) (s b) ≡ Some (Taking p u)
-    → (rest : List Token) × (whole net (net.into b p) ≡ got net s (net.into b p) ++ u ∷ rest)
+    → (rest : List Token) × (stream_on net (net.into b p) ≡ got net s (net.into b p) ++ u ∷ rest)
 next_of_whole net s b p u w e =
     let c = net.into b p in
     let at : (net.receiver c ≡ b) × (net.received_at c ≡ p) × (c < net.channels) = w.taken b (s b) p u e in
@@ -91,7 +91,7 @@ pub front_next : (net : Net) (s : State) (b p : ℕ) (u t : Token) (q : List Tok
 front_next net s b p u t q w e h =
     let c = net.into b p in
     let rest : List Token = puts (net.sent_at c) (drop (s (net.sender c)) (net.moves (net.sender c))) in
-    let l : (rest : List Token) × (whole net c ≡ got net s c ++ u ∷ rest) = next_of_whole net s b p u w e in
+    let l : (rest : List Token) × (stream_on net c ≡ got net s c ++ u ∷ rest) = next_of_whole net s b p u w e in
     let one : got net s c ++ (t ∷ q ++ rest) ≡ got net s c ++ u ∷ l.0 =
     sym (append_assoc (got net s c) (t ∷ q) rest) ∙ ap (λ (z : List Token). z ++ rest) (sym h) ∙ sent_whole net s c ∙ l.1 in
     let same : t ∷ q ++ rest ≡ u ∷ l.0 = append_cancel_left (got net s c) _ _ one in

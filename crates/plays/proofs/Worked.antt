@@ -5,7 +5,7 @@ use Rattle.std.proofs.Common.{arith}
 use Rattle.stream_tokens.specs.declared.Token.{Token}
 use Rattle.stream_tokens.specs.declared.Token.TheVariants.{Item, Done}
 use Rattle.block_core.specs.Move.{Move, Taking, Putting}
-use Rattle.plays.specs.Net.{Net, State, Wired, Kept, Stuck, Finished, Reached, Suffices, Forwards, WholeRoom, Fits, Waits, NoMore, all_channels, sum_below, raise, turn, whole, sent, got, waiting, queue, has_room, can, play, start}
+use Rattle.plays.specs.Net.{Net, State, Wired, WithinBounds, Stuck, Finished, Reached, Suffices, Forwards, WholeRoom, WithinLimit, Waits, NoMore, all_channels, sum_below, raise, turn, stream_on, sent, got, waiting, queue, has_room, can, play, start}
 use Rattle.plays.proofs.Always.{always-kept}
 use Rattle.plays.proofs.Ends.{more-room}
 
@@ -71,7 +71,7 @@ two_wired = record {
   same = below_two _ refl refl;
 }
 
-whole_row : (whole two 0 ≡ Item 5 ∷ Done ∷ []) × (whole two 1 ≡ Item 7 ∷ [])
+whole_row : (stream_on two 0 ≡ Item 5 ∷ Done ∷ []) × (stream_on two 1 ≡ Item 7 ∷ [])
 whole_row = (refl, refl)
 
 -- a net whose channel 0 carries another stream than block 1 takes
@@ -135,17 +135,17 @@ halfway_left = refl
 halfway_count : sum_below 2 halfway ≡ 5
 halfway_count = refl
 
-halfway_kept : Kept two (all_channels 2) halfway
+halfway_kept : WithinBounds two (all_channels 2) halfway
 halfway_kept = always-kept two (all_channels 2) halfway two_wired (0 ∷ 1 ∷ 0 ∷ 0 ∷ 1 ∷ 1 ∷ [], refl)
 
 -- what no play reaches: more moves than there are, a take of what wasn't put, more tokens than there is room for
-past_the_end : Kept two (all_channels 2) (λ b. 4) → ⊥
+past_the_end : WithinBounds two (all_channels 2) (λ b. 4) → ⊥
 past_the_end h = let l : 4 ≤ 3 = h.within 0 in omega (arith, l)
 
-taken_early : Kept two (all_channels 2) (λ b. b) → ⊥
+taken_early : WithinBounds two (all_channels 2) (λ b. b) → ⊥
 taken_early h = let l : 1 ≤ 0 = h.order 1 (omega arith) in omega (arith, l)
 
-too_full : Kept two (all_channels 1) (λ b. 2 - 2 * b) → ⊥
+too_full : WithinBounds two (all_channels 1) (λ b. 2 - 2 * b) → ⊥
 too_full h = let l : 2 ≤ 1 = h.room 0 (omega arith) in omega (arith, l)
 
 abbrev done : State
@@ -154,7 +154,7 @@ done = play two (all_channels 2) start (0 ∷ 0 ∷ 0 ∷ 1 ∷ 1 ∷ 1 ∷ [])
 done_finished : Finished two done
 done_finished = below_two _ refl refl
 
-done_count : sum_below 2 done ≡ 2 * sum_below 2 (λ c. length (whole two c))
+done_count : sum_below 2 done ≡ 2 * sum_below 2 (λ c. length (stream_on two c))
 done_count = refl
 
 -- another order of the events ends in the same state
@@ -186,7 +186,7 @@ no_limit_is_most = λ c. tt
 a_limit_is_less : NoMore (λ c. None) (all_channels 1) → ⊥
 a_limit_is_less h = h 0
 
-fits_rows : Fits None 9 × Fits (Some 2) 2 × (Fits (Some 2) 3 → ⊥)
+fits_rows : WithinLimit None 9 × WithinLimit (Some 2) 2 × (WithinLimit (Some 2) 3 → ⊥)
 fits_rows = (tt, omega arith, λ h. omega (arith, h))
 
 raise_rows : (raise 1 start 1 ≡ 1) × (raise 1 start 0 ≡ 0)

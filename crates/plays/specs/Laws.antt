@@ -1,6 +1,6 @@
 -- The laws of plays.
 use Rattle.std.specs.Prelude.{◌≡◌, ℕ, ◌+◌, ◌*◌, ◌<◌, ◌≤◌, length}
-use Rattle.plays.specs.Net.{Net, Rooms, State, Wired, Stuck, Finished, Reached, NoMore, Kept, Forwards, WholeRoom, Suffices, sum_below, sent, got, whole}
+use Rattle.plays.specs.Net.{Net, Rooms, State, Wired, Stuck, Finished, Reached, PlaysTo, NoMore, WithinBounds, Forwards, WholeRoom, Suffices, sum_below, sent, got, stream_on}
 
 -- A stuck state is never passed under limits that are at most as large: no block makes more moves than there.
 abbrev pub NeverPassed : Type 0
@@ -23,7 +23,11 @@ MoreRoom = (net : Net) (low high : Rooms) (s t : State) → Wired net → NoMore
 
 -- What holds of each state that a play reaches.
 abbrev pub AlwaysKept : Type 0
-AlwaysKept = (net : Net) (rooms : Rooms) (s : State) → Wired net → Reached net rooms s → Kept net rooms s
+AlwaysKept = (net : Net) (rooms : Rooms) (s : State) → Wired net → Reached net rooms s → WithinBounds net rooms s
+
+-- What events of a reached state lead to is reached.
+abbrev pub StaysReached : Type 0
+StaysReached = (net : Net) (rooms : Rooms) (s t : State) → Reached net rooms s → PlaysTo net rooms s t → Reached net rooms t
 
 -- Where each channel has room for its whole stream and channels lead forwards, a stuck state is finished.
 abbrev pub NoStall : Type 0
@@ -38,7 +42,7 @@ EachCounts = (net : Net) (s : State) → Wired net → ((b : ℕ) → b < net.bl
 -- A finished state has made twice as many moves as all streams are long together.
 abbrev pub TwiceEach : Type 0
 TwiceEach = (net : Net) (s : State) → Wired net → Finished net s
-    → sum_below net.blocks s ≡ 2 * sum_below net.channels (λ c. length (whole net c))
+    → sum_below net.blocks s ≡ 2 * sum_below net.channels (λ c. length (stream_on net c))
 
 -- A larger limit on all channels suffices where a smaller one does.
 abbrev pub LargerSuffices : Type 0

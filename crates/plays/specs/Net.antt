@@ -25,8 +25,8 @@ abbrev pub State : Type 0
 State = ℕ → ℕ
 
 -- all that is sent on a channel
-abbrev pub whole : Net → ℕ → List Token
-whole net c = puts (net.sent_at c) (net.moves (net.sender c))
+abbrev pub stream_on : Net → ℕ → List Token
+stream_on net c = puts (net.sent_at c) (net.moves (net.sender c))
 
 -- the tokens put on a channel, and those taken from it, in order
 abbrev pub sent : Net → State → ℕ → List Token
@@ -40,7 +40,7 @@ abbrev pub waiting : Net → State → ℕ → ℕ
 waiting net s c = length (sent net s c) - length (got net s c)
 
 abbrev pub queue : Net → State → ℕ → List Token
-queue net s c = slice_range (whole net c) (length (got net s c)) (length (sent net s c))
+queue net s c = slice_range (stream_on net c) (length (got net s c)) (length (sent net s c))
 
 abbrev pub has_room : Option ℕ → ℕ → Bool
 has_room None n = true
@@ -80,6 +80,10 @@ Stuck net rooms s = (b : ℕ) → b < net.blocks → can net rooms s b ≡ false
 abbrev pub Finished : Net → State → Type 0
 Finished net s = (b : ℕ) → b < net.blocks → s b ≡ length (net.moves b)
 
+-- events of the first state lead to the second
+abbrev pub PlaysTo : Net → Rooms → State → State → Type 0
+PlaysTo net rooms s t = (schedule : List ℕ) × (t ≡ play net rooms s schedule)
+
 -- A play from the start reaches this state.
 abbrev pub Reached : Net → Rooms → State → Type 0
 Reached net rooms s = (schedule : List ℕ) × (s ≡ play net rooms start schedule)
@@ -108,15 +112,15 @@ pub record Wired (net : Net) : Type 0 where
       → puts (net.sent_at c) (net.moves (net.sender c)) ≡ takes (net.received_at c) (net.moves (net.receiver c))
 
 -- A channel never holds more than its limit.
-abbrev pub Fits : Option ℕ → ℕ → Type 0
-Fits None n = Unit {0}
-Fits (Some room) n = n ≤ room
+abbrev pub WithinLimit : Option ℕ → ℕ → Type 0
+WithinLimit None n = Unit {0}
+WithinLimit (Some room) n = n ≤ room
 
 -- What holds of each state that a play reaches.
-pub record Kept (net : Net) (rooms : Rooms) (s : State) : Type 0 where
+pub record WithinBounds (net : Net) (rooms : Rooms) (s : State) : Type 0 where
   pub within : (b : ℕ) → s b ≤ length (net.moves b)
   pub order : (c : ℕ) → c < net.channels → length (got net s c) ≤ length (sent net s c)
-  pub room : (c : ℕ) → c < net.channels → Fits (rooms c) (waiting net s c)
+  pub room : (c : ℕ) → c < net.channels → WithinLimit (rooms c) (waiting net s c)
 
 -- the sum of f at the numbers below n
 abbrev pub sum_below : ℕ → (ℕ → ℕ) → ℕ
@@ -129,7 +133,7 @@ Forwards net rank = (c : ℕ) → c < net.channels → rank (net.sender c) < ran
 
 -- each limit lets a channel's whole stream in
 abbrev pub WholeRoom : Net → Rooms → Type 0
-WholeRoom net rooms = (c : ℕ) → c < net.channels → AtMost (Some (length (whole net c))) (rooms c)
+WholeRoom net rooms = (c : ℕ) → c < net.channels → AtMost (Some (length (stream_on net c))) (rooms c)
 
 -- the same limit on each channel
 abbrev pub all_channels : ℕ → Rooms

@@ -1,19 +1,19 @@
 -- All of a machine but its blocks, as one block's burst sees it.
-use Rattle.std.specs.Prelude.{◌≡◌, ◌<◌, ℕ, ◌+◌, ◌-◌, ◌^◌, min, List, [], ◌∷◌, ◌++◌, Bool, length, drop, set, slice_get, get_or, Option, Some, None}
+use Rattle.std.specs.Prelude.{◌≡◌, ◌<◌, ℕ, ◌+◌, ◌-◌, ◌^◌, min, List, [], ◌∷◌, ◌++◌, Bool, length, take, drop, set, slice_get, get_or, Option, Some, None}
 use Rattle.stream_tokens.specs.declared.Token.{Token}
 use Rattle.block_core.specs.Move.{Move, Taking, Putting}
 use Rattle.block_core.specs.Ports.{Streams}
 use Rattle.block_core.specs.Kind.{Kind, moves}
-use Rattle.block_core.specs.Bursts.{Poured}
-use Rattle.plays.specs.Net.{Net, Rooms, State, Wired, Kept, Waits, sum_below, play}
+use Rattle.block_core.specs.Bursts.{Poured, relayed}
+use Rattle.plays.specs.Net.{Net, Rooms, State, Wired, WithinBounds, Waits, PlaysTo, sum_below}
 use Rattle.plays.specs.Held.{Queued}
-use Rattle.plays.specs.Told.{HasLists, Grew}
+use Rattle.plays.specs.Told.{Tapped, HasLists, Grew}
 
 -- what waits on each channel, what a tap was told, the number of events, and of one block its number and the channels at
 -- its inputs and at its outputs
-pub record Ends : Type 0 where
+pub record BlockEnds : Type 0 where
   pub queues : List Queued
-  pub told : Option (List (List Token))
+  pub told : Tapped
   pub moves : ℕ
   pub block : ℕ
   pub ins : List ℕ
@@ -23,19 +23,19 @@ abbrev pub no_queue : Queued
 no_queue = record { tokens = []; room = None }
 
 -- the queue at an input, and the token that waits first there
-abbrev pub in_queue : Ends → ℕ → Queued
+abbrev pub in_queue : BlockEnds → ℕ → Queued
 in_queue e p = get_or e.queues (get_or e.ins p 0) no_queue
 
-abbrev pub waits_at : Ends → ℕ → List Token
+abbrev pub waits_at : BlockEnds → ℕ → List Token
 waits_at e p = (in_queue e p).tokens
 
-abbrev pub first_at : Ends → ℕ → Option Token
+abbrev pub first_at : BlockEnds → ℕ → Option Token
 first_at e p = slice_get (waits_at e p) 0
 
 -- All but the blocks stands at a state of a net.
-pub record RestAt (net : Net) (rooms : Rooms) (s : State) (e : Ends) : Type 0 where
+pub record RestAt (net : Net) (rooms : Rooms) (s : State) (e : BlockEnds) : Type 0 where
   pub wired : Wired net
-  pub kept : Kept net rooms s
+  pub kept : WithinBounds net rooms s
   pub queues_number : length e.queues ≡ net.channels
   pub queues : (c : ℕ) (q : Queued) → slice_get e.queues c ≡ Some q → (q.room ≡ rooms c) × Waits net s c q.tokens
   pub counted : e.moves ≡ min (sum_below net.blocks s) (2 ^ 64 - 1)
@@ -46,27 +46,23 @@ pub record RestAt (net : Net) (rooms : Rooms) (s : State) (e : Ends) : Type 0 wh
       → net.into e.block p ≡ net.out_of e.block q → ⊥
 
 -- somewhere, where the block has these moves before it
-abbrev pub FedAt : Ends → List Move → Type 0
+abbrev pub FedAt : BlockEnds → List Move → Type 0
 FedAt e ms = (net : Net) × (rooms : Rooms) × (s : State) × RestAt net rooms s e × (drop (s e.block) (net.moves e.block) ≡ ms)
 
--- events of the first state lead to the second
-abbrev pub Leads : Net → Rooms → State → State → Type 0
-Leads net rooms s t = (schedule : List ℕ) × (t ≡ play net rooms s schedule)
-
 -- the state after so many moves of one block
-pub record Moved (net : Net) (rooms : Rooms) (s : State) (b k : ℕ) (t : State) : Type 0 where
-  pub leads : Leads net rooms s t
+pub record AfterMoves (net : Net) (rooms : Rooms) (s : State) (b k : ℕ) (t : State) : Type 0 where
+  pub leads : PlaysTo net rooms s t
   pub here : t b ≡ s b + k
   pub there : (d : ℕ) → (d ≡ b → ⊥) → t d ≡ s d
 
 -- Wherever it stood with these moves before the block, it stands where they lead.
-abbrev pub Advances : Ends → List Move → Ends → Type 0
+abbrev pub Advances : BlockEnds → List Move → BlockEnds → Type 0
 Advances e ms e' =
     (net : Net) (rooms : Rooms) (s : State) (rest : List Move) → RestAt net rooms s e → drop (s e.block) (net.moves e.block) ≡ ms ++ rest
-    → (t : State) × Moved net rooms s e.block (length ms) t × RestAt net rooms t e' × Grew net s t e.told e'.told
+    → (t : State) × AfterMoves net rooms s e.block (length ms) t × RestAt net rooms t e' × Grew net s t e.told e'.told
 
 -- the same block, with as many queues, and a tap with as many lists
-pub record SameEnds (e e' : Ends) : Type 0 where
+pub record SameEnds (e e' : BlockEnds) : Type 0 where
   pub block : e'.block ≡ e.block
   pub ins : e'.ins ≡ e.ins
   pub outs : e'.outs ≡ e.outs
@@ -74,7 +70,7 @@ pub record SameEnds (e e' : Ends) : Type 0 where
   pub lists : HasLists (length e.queues) e.told → HasLists (length e'.queues) e'.told
 
 -- The block made just these moves.
-pub record MadeAt (e : Ends) (ms : List Move) (e' : Ends) : Type 0 where
+pub record MadeAt (e : BlockEnds) (ms : List Move) (e' : BlockEnds) : Type 0 where
   pub block : e'.block ≡ e.block
   pub ins : e'.ins ≡ e.ins
   pub outs : e'.outs ≡ e.outs
@@ -83,14 +79,19 @@ pub record MadeAt (e : Ends) (ms : List Move) (e' : Ends) : Type 0 where
   pub advances : Advances e ms e'
 
 -- One of many blocks made some moves.
-abbrev pub BurstAt : {B : Type 0} → (B → Kind) → (B → Streams → ℕ → Type 0) → List B → Ends → List B → Ends → Bool → Type 0
+abbrev pub BurstAt : {B : Type 0} → (B → Kind) → (B → Streams → ℕ → Type 0) → List B → BlockEnds → List B → BlockEnds → Bool → Type 0
 BurstAt kind stands blocks e blocks' e' went =
     (x : _) → slice_get blocks e.block ≡ Some x → (y : _) × (blocks' ≡ set blocks e.block y) × (kind y ≡ kind x) × Poured kind stands FedAt MadeAt x e y e' went
 
-abbrev pub MayBurst : {B : Type 0} → (B → Kind) → (B → Streams → ℕ → Type 0) → List B → Ends → Type 0
+abbrev pub MayBurst : {B : Type 0} → (B → Kind) → (B → Streams → ℕ → Type 0) → List B → BlockEnds → Type 0
 MayBurst kind stands blocks e =
     ∥ ((x : _) × (slice_get blocks e.block ≡ Some x) × (s : Streams) × (n : ℕ) × stands x s n × FedAt e (drop n (moves (kind x) s))) ∥₁
 
 -- the block next takes from one port and puts this token on another
-abbrev pub MayRelayOne : Ends → ℕ → ℕ → Token → Type 0
+abbrev pub MayRelayOne : BlockEnds → ℕ → ℕ → Token → Type 0
 MayRelayOne e p q t = ∥ ((u : Token) × (rest : List Move) × FedAt e (Taking p u ∷ Putting q t ∷ rest)) ∥₁
+
+-- as many as i of these were relayed
+pub record RelayedTo (e : BlockEnds) (from to : ℕ) (us : List Token) (i : ℕ) (f : BlockEnds) : Type 0 where
+  pub made : MadeAt e (relayed from to (take i (waits_at e from)) (take i us)) f
+  pub left : waits_at f from ≡ drop i (waits_at e from)

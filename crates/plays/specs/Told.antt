@@ -3,13 +3,17 @@ use Rattle.std.specs.Prelude.{◌≡◌, ◌<◌, ◌≤◌, ℕ, List, [], ◌�
 use Rattle.stream_tokens.specs.declared.Token.{Token}
 use Rattle.plays.specs.Net.{Net, State, sent}
 
+-- what a tap was given: a list for each channel, or nothing
+abbrev pub Tapped : Type 0
+Tapped = Option (List (List Token))
+
 -- a token more for one channel
-abbrev pub one_told : ℕ → Token → Option (List (List Token)) → Option (List (List Token))
+abbrev pub one_told : ℕ → Token → Tapped → Tapped
 one_told c t None = None
 one_told c t (Some ts) = Some (set ts c (get_or ts c [] ++ t ∷ []))
 
 -- a tap that tells has a list for each of so many channels
-abbrev pub HasLists : ℕ → Option (List (List Token)) → Type 0
+abbrev pub HasLists : ℕ → Tapped → Type 0
 HasLists n None = Unit {0}
 HasLists n (Some ts) = n ≤ length ts
 
@@ -18,7 +22,7 @@ abbrev pub GrewAt : Net → State → State → ℕ → List Token → List Toke
 GrewAt net s t c old new = (more : List Token) × (sent net t c ≡ sent net s c ++ more) × (new ≡ old ++ more)
 
 -- A tap that tells was given, channel by channel, just what was put between two states; other lists are as before.
-abbrev pub Grew : Net → State → State → Option (List (List Token)) → Option (List (List Token)) → Type 0
+abbrev pub Grew : Net → State → State → Tapped → Tapped → Type 0
 Grew net s t None None = Unit {0}
 Grew net s t None (Some new) = ⊥
 Grew net s t (Some old) None = ⊥

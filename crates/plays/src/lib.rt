@@ -6,7 +6,7 @@
 //! a law for every net, all schedules and all capacities.
 #![tactic(auto)]
 
-ghost use Rattle.plays.specs.Laws.{NeverPassed, OneEnd, SomeEnd, MoreRoom, AlwaysKept, NoStall, EachCounts, TwiceEach, LargerSuffices};
+ghost use Rattle.plays.specs.Laws.{NeverPassed, OneEnd, SomeEnd, MoreRoom, AlwaysKept, StaysReached, NoStall, EachCounts, TwiceEach, LargerSuffices};
 
 /// The one law: a play under limits that are at most as large never passes a stuck state. No block ever makes more moves
 /// than it has made there.
@@ -33,6 +33,12 @@ pub fn more_room()
 /// put on it, and none holds more than its limit.
 pub fn always_kept()
     ensures { AlwaysKept }
+{}
+
+/// What events of a reached state lead to is reached, so what holds of all reached states holds of a run that goes on from
+/// one.
+pub fn stays_reached()
+    ensures { StaysReached }
 {}
 
 /// Where each channel has room for its whole stream and channels lead forwards, plays that end stuck finish.

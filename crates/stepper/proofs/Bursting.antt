@@ -1,28 +1,27 @@
 -- From a machine to one block's ends, and back.
-use Rattle.std.specs.Prelude.{◌≡◌, ◌<◌, ◌≤◌, ℕ, zero, suc, ◌+◌, ◌-◌, Bool, true, List, [], ◌∷◌, ◌++◌, length, take, drop, set, slice_get, get_or, Option, Some, None, Result, Ok, Err, IfOk, IfErr, false, refl}
+use Rattle.std.specs.Prelude.{◌≡◌, ◌<◌, ◌≤◌, ℕ, zero, suc, ◌+◌, Bool, true, List, [], ◌∷◌, length, take, drop, set, slice_get, get_or, Option, Some, Result, Ok, Err, IfOk, IfErr, false, refl}
 use Rattle.std.proofs.Common.{arith, sym, ◌∙◌, ap, subst, length-drop, inl, inr}
 use Rattle.std.proofs.lemmas.Bool.{cases_eq}
 use Rattle.std.proofs.lemmas.List.{length-set, length-take, take-append-drop}
 use Rattle.std.specs.Coded.{le_prop}
 use Rattle.std.proofs.Math.Logic.{∥∥₁_elim, ∥∥₁_map}
-use Rattle.stream_tokens.specs.declared.Token.{Token}
 use Rattle.sam_model.specs.Children.{Ranked}
 use Rattle.block_core.specs.Move.{Move, Taking, Putting}
 use Rattle.block_core.specs.Ports.{Streams}
 use Rattle.block_core.specs.Kind.{Kind, moves}
 use Rattle.graph.specs.declared.graphs.Graph.{Graph}
 use Rattle.graph.specs.Meaning.{meaning}
-use Rattle.graph.specs.Wiring.{block, channel, into, out_of}
+use Rattle.graph.specs.Wiring.{block, channel, into}
 use Rattle.graph.specs.WholeStreams.{whole_inputs}
 use Rattle.graph.specs.Standing.{block_moves}
-use Rattle.plays.specs.Net.{Net, Rooms, State, sum_below}
-use Rattle.plays.specs.Held.{Table, at_port, Queued, Held}
-use Rattle.plays.specs.Told.{HasLists, Grew}
-use Rattle.plays.specs.Rest.{Ends, Leads, RestAt, FedAt, Moved, MadeAt, BurstAt, MayBurst}
+use Rattle.plays.specs.Net.{Net, Rooms, State, PlaysTo, sum_below}
+use Rattle.plays.specs.Held.{Queued, Held}
+use Rattle.plays.specs.Told.{Tapped, HasLists, Grew}
+use Rattle.plays.specs.Rest.{RestAt, BurstAt, MayBurst}
 use Rattle.stepper.specs.NetOf.{net_of, rooms_of}
 use Rattle.stepper.specs.AtState.{AtState, Somewhere}
-use Rattle.stepper.specs.Bursting.{row_of, ends_of, OnwardsBy}
-use Rattle.stepper.proofs.Lists.{same_some, some_in, get_set_here, get_set_there}
+use Rattle.stepper.specs.Bursting.{row_of, block_ends, OnwardsBy}
+use Rattle.plays.proofs.Lists.{same_some, some_in, get_set_here, get_set_there}
 use Rattle.stepper.proofs.Wires.{wired, move_within, take_port, put_port}
 
 get_drop : (xs : List ℕ) (a p : ℕ) → get_or (drop a xs) p 0 ≡ get_or xs (a + p) 0
@@ -53,8 +52,8 @@ sum_more (suc n) b k s t l here there = elim (cases_eq n b) [
     sums (suc n) h = let a = sums n (λ d l. h d (omega (arith, l))) in let b = h n (omega arith) in omega (arith, a, b)
 
 module _ {B : Type 0} (kind : B → Kind) (stands : B → Streams → ℕ → Type 0) (storages : List Ranked) (g : Graph) (caps : List (Option ℕ)) where
-  pub rest_of : (s : State) (m : Held B) (told : Option (List (List Token))) (b : ℕ)
-      → AtState kind stands storages g caps s m → HasLists (length m.queues) told → RestAt (net_of storages g) (rooms_of caps) s (ends_of m told b)
+  pub rest_of : (s : State) (m : Held B) (told : Tapped) (b : ℕ)
+      → AtState kind stands storages g caps s m → HasLists (length m.queues) told → RestAt (net_of storages g) (rooms_of caps) s (block_ends m told b)
   rest_of s m told b h lists = record {
     wired = wired storages g h.well_formed h.consistent;
     kept = h.kept;
@@ -89,11 +88,11 @@ module _ {B : Type 0} (kind : B → Kind) (stands : B → Streams → ℕ → Ty
 
   -- Where a burst of one block leads, the machine stands.
   pub burst_at_state : ((x : B) (s : Streams) (n : ℕ) → stands x s n → n ≤ length (moves (kind x) s))
-      → (s : State) (m : Held B) (told : Option (List (List Token))) (b : ℕ) (went : Bool) (bs : List B) (qs : List Queued) (n : ℕ) (told' : Option (List (List Token)))
+      → (s : State) (m : Held B) (told : Tapped) (b : ℕ) (went : Bool) (bs : List B) (qs : List Queued) (n : ℕ) (told' : Tapped)
       → b < length m.blocks → HasLists (length m.queues) told
-      → BurstAt kind stands m.blocks (ends_of m told b) bs (record { queues = qs; told = told'; moves = n; block = b; ins = row_of m.routes.ins b; outs = row_of m.routes.outs b }) went
+      → BurstAt kind stands m.blocks (block_ends m told b) bs (record { queues = qs; told = told'; moves = n; block = b; ins = row_of m.routes.ins b; outs = row_of m.routes.outs b }) went
       → AtState kind stands storages g caps s m
-      → (t : State) × Leads (net_of storages g) (rooms_of caps) s t
+      → (t : State) × PlaysTo (net_of storages g) (rooms_of caps) s t
       × AtState kind stands storages g caps t (record { blocks = bs; queues = qs; moves = n; routes = m.routes }) × Grew (net_of storages g) s t told told'
       × (sum_below (length g.blocks) s ≤ sum_below (length g.blocks) t) × (went ≡ true → sum_below (length g.blocks) s < sum_below (length g.blocks) t)
   burst_at_state within s m told b went bs qs n told' lb lists burst h =
@@ -161,15 +160,15 @@ module _ {B : Type 0} (kind : B → Kind) (stands : B → Streams → ℕ → Ty
 
 module _ {B : Type 0} (kind : B → Kind) (stands : B → Streams → ℕ → Type 0) where
   pub burst_onwards : ((x : B) (s : Streams) (n : ℕ) → stands x s n → n ≤ length (moves (kind x) s))
-      → (m : Held B) (told : Option (List (List Token))) (b : ℕ) (went : Bool) (bs : List B) (qs : List Queued) (n : ℕ) (told' : Option (List (List Token)))
+      → (m : Held B) (told : Tapped) (b : ℕ) (went : Bool) (bs : List B) (qs : List Queued) (n : ℕ) (told' : Tapped)
       → b < length m.blocks → HasLists (length m.queues) told
-      → BurstAt kind stands m.blocks (ends_of m told b) bs (record { queues = qs; told = told'; moves = n; block = b; ins = row_of m.routes.ins b; outs = row_of m.routes.outs b }) went
+      → BurstAt kind stands m.blocks (block_ends m told b) bs (record { queues = qs; told = told'; moves = n; block = b; ins = row_of m.routes.ins b; outs = row_of m.routes.outs b }) went
       → OnwardsBy kind stands m told (record { blocks = bs; queues = qs; moves = n; routes = m.routes }) told' went
   burst_onwards within m told b went bs qs n told' lb lists burst storages g caps s h =
       burst_at_state kind stands storages g caps within s m told b went bs qs n told' lb lists burst h
 
-  pub may_of : (m : Held B) (told : Option (List (List Token))) (b : ℕ) → b < length m.blocks → HasLists (length m.queues) told
-      → ∥ (Somewhere kind stands m) ∥₁ → MayBurst kind stands m.blocks (ends_of m told b)
+  pub may_of : (m : Held B) (told : Tapped) (b : ℕ) → b < length m.blocks → HasLists (length m.queues) told
+      → ∥ (Somewhere kind stands m) ∥₁ → MayBurst kind stands m.blocks (block_ends m told b)
   may_of m told b l lists sits = ∥∥₁_map sits (λ r.
       let h = r.4 in
       let x = some_in m.blocks b l in
@@ -189,7 +188,7 @@ module _ {B : Type 0} (kind : B → Kind) (stands : B → Streams → ℕ → Ty
   row_outs m b l sits = ∥∥₁_elim sits le_prop (λ r. let h = r.4 in let n = h.standing.number in let k = h.routed.outs.blocks in omega (arith, l, n, k))
 
   -- the same with the rows as they were read
-  pub may_rows : (m : Held B) (told : Option (List (List Token))) (b : ℕ) (ins outs : List ℕ) → ins ≡ row_of m.routes.ins b → outs ≡ row_of m.routes.outs b
+  pub may_rows : (m : Held B) (told : Tapped) (b : ℕ) (ins outs : List ℕ) → ins ≡ row_of m.routes.ins b → outs ≡ row_of m.routes.outs b
       → b < length m.blocks → HasLists (length m.queues) told
       → ∥ (Somewhere kind stands m) ∥₁ → MayBurst kind stands m.blocks (record { queues = m.queues; told = told; moves = m.moves; block = b; ins = ins; outs = outs })
   may_rows m told b ins outs i o l lists sits =
@@ -198,8 +197,8 @@ module _ {B : Type 0} (kind : B → Kind) (stands : B → Streams → ℕ → Ty
       (may_of m told b l lists sits))
 
   pub onwards_rows : ((x : B) (s : Streams) (n : ℕ) → stands x s n → n ≤ length (moves (kind x) s))
-      → (m : Held B) (told : Option (List (List Token))) (b : ℕ) (ins outs : List ℕ) → ins ≡ row_of m.routes.ins b → outs ≡ row_of m.routes.outs b
-      → (went : Bool) (bs : List B) (qs : List Queued) (n : ℕ) (told' : Option (List (List Token)))
+      → (m : Held B) (told : Tapped) (b : ℕ) (ins outs : List ℕ) → ins ≡ row_of m.routes.ins b → outs ≡ row_of m.routes.outs b
+      → (went : Bool) (bs : List B) (qs : List Queued) (n : ℕ) (told' : Tapped)
       → b < length m.blocks → HasLists (length m.queues) told
       → BurstAt kind stands m.blocks (record { queues = m.queues; told = told; moves = m.moves; block = b; ins = ins; outs = outs }) bs (record { queues = qs; told = told'; moves = n; block = b; ins = ins; outs = outs }) went
       → OnwardsBy kind stands m told (record { blocks = bs; queues = qs; moves = n; routes = m.routes }) told' went
@@ -208,7 +207,7 @@ module _ {B : Type 0} (kind : B → Kind) (stands : B → Streams → ℕ → Ty
       (subst (λ z. BurstAt kind stands m.blocks (record { queues = m.queues; told = told; moves = m.moves; block = b; ins = z; outs = row_of m.routes.outs b }) bs (record { queues = qs; told = told'; moves = n; block = b; ins = z; outs = row_of m.routes.outs b }) went) i
       (subst (λ z. BurstAt kind stands m.blocks (record { queues = m.queues; told = told; moves = m.moves; block = b; ins = ins; outs = z }) bs (record { queues = qs; told = told'; moves = n; block = b; ins = ins; outs = z }) went) o h))
 
-  pub sits_on : (m : Held B) (told : Option (List (List Token))) (m' : Held B) (told' : Option (List (List Token))) (went : Bool)
+  pub sits_on : (m : Held B) (told : Tapped) (m' : Held B) (told' : Tapped) (went : Bool)
       → OnwardsBy kind stands m told m' told' went → ∥ (Somewhere kind stands m) ∥₁ → ∥ (Somewhere kind stands m') ∥₁
   sits_on m told m' told' went h sits = ∥∥₁_map sits (λ r. let o = h r.0 r.1 r.2 r.3 r.4 in (r.0, r.1, r.2, o.0, o.2))
 

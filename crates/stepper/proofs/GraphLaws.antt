@@ -5,7 +5,7 @@ use Rattle.stream_tokens.specs.declared.Token.{Token}
 use Rattle.block_core.specs.Move.{takes, puts}
 use Rattle.graph.specs.Wiring.{channel}
 use Rattle.graph.specs.WholeStreams.{whole_stream}
-use Rattle.plays.specs.Net.{AtMost, whole, sent, got}
+use Rattle.plays.specs.Net.{AtMost, stream_on, sent, got}
 use Rattle.plays.proofs.Waiting.{sent_whole, got_whole, waits_queue}
 use Rattle.plays.proofs.Sums.{sum_same}
 use Rattle.plays.proofs.Always.{always-kept}
@@ -13,7 +13,7 @@ use Rattle.plays.proofs.Ends.{one-end, some-end, more-room}
 use Rattle.plays.proofs.Finishing.{all_sent, no-stall}
 use Rattle.plays.proofs.Count.{twice-each}
 use Rattle.stepper.specs.NetOf.{net_of, rooms_of}
-use Rattle.stepper.specs.Laws.{GraphsAreWired, AlwaysPartWay, QueuesArePart, OneEnd, MoreRoomNeverHurts, RoomSuffices, MoveCount, AllIsSent}
+use Rattle.stepper.specs.Laws.{GraphsAreWired, AlwaysPartWay, QueuesArePart, OneStuckState, MoreRoomNeverHurts, RoomSuffices, MoveCount, AllIsSent}
 use Rattle.stepper.proofs.Wires.{wired, put_whole}
 
 pub graphs-are-wired : GraphsAreWired
@@ -37,7 +37,7 @@ queues-are-part storages g s c q w k l h =
     waits_queue net s c q h
     ∙ ap (λ (z : List Token). slice_range z (length (got net s c)) (length (sent net s c))) (put_whole storages g c w k l)
 
-pub one-end-of-graphs : OneEnd
+pub one-end-of-graphs : OneStuckState
 one-end-of-graphs storages g caps w k =
     let net = net_of storages g in
     let wire = wired storages g w k in
@@ -56,7 +56,7 @@ room-suffices storages g caps s w k room =
 pub move-count : MoveCount
 move-count storages g s w k done =
     let net = net_of storages g in
-    let same = sum_same (length g.channels) (λ c. length (whole_stream storages g c)) (λ c. length (whole net c))
+    let same = sum_same (length g.channels) (λ c. length (whole_stream storages g c)) (λ c. length (stream_on net c))
     (λ c l. ap (λ (z : List Token). length z) (put_whole storages g c w k l)) in
     let twice = twice-each net s (wired storages g w k) done in
     omega (arith, twice, same)

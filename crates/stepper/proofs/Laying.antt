@@ -17,9 +17,9 @@ use Rattle.plays.proofs.Sums.{sum_zero}
 use Rattle.plays.proofs.Always.{start_kept}
 use Rattle.plays.specs.Held.{Table, Queued, Held}
 use Rattle.stepper.specs.NetOf.{net_of, rooms_of}
-use Rattle.stepper.specs.AtState.{Lists, Routed, AtState}
+use Rattle.stepper.specs.AtState.{PortsListed, Routed, AtState}
 
-pub lists_none : (t : Table) (row : ℕ → List ℕ) → t.first ≡ [] → Lists t 0 row
+pub lists_none : (t : Table) (row : ℕ → List ℕ) → t.first ≡ [] → PortsListed t 0 row
 lists_none t row e = record {
   blocks = ap (λ (z : List ℕ). length z) e;
   within = λ b p l k. absurd (omega (arith, l));
@@ -27,8 +27,8 @@ lists_none t row e = record {
 }
 
 -- a block more
-pub lists_more : (t u : Table) (n : ℕ) (row : ℕ → List ℕ) (cs : List ℕ) → Lists t n row → cs ≡ row n
-    → u.first ≡ t.first ++ length t.channels ∷ [] → u.channels ≡ t.channels ++ cs → Lists u (n + 1) row
+pub lists_more : (t u : Table) (n : ℕ) (row : ℕ → List ℕ) (cs : List ℕ) → PortsListed t n row → cs ≡ row n
+    → u.first ≡ t.first ++ length t.channels ∷ [] → u.channels ≡ t.channels ++ cs → PortsListed u (n + 1) row
 lists_more t u n row cs h e first channels =
     let old : (b : ℕ) → b < n → get_or u.first b 0 ≡ get_or t.first b 0 =
     λ b l. ap (λ (z : List ℕ). get_or z b 0) first ∙ get_or_append_left t.first (length t.channels ∷ []) 0 b (omega (arith, l, h.blocks)) in

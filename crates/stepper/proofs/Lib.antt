@@ -1,4 +1,3 @@
-pub mod Lists
 pub mod Wishes
 pub mod Wires
 pub mod Moving

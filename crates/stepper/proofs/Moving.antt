@@ -1,5 +1,5 @@
 -- An event of the machine: it stands where the event leads.
-use Rattle.std.specs.Prelude.{◌≡◌, ◌<◌, ℕ, suc, ◌+◌, ◌-◌, ◌^◌, min, true, List, length, set, slice_get, get_or, Option, Some}
+use Rattle.std.specs.Prelude.{◌≡◌, ◌<◌, ℕ, ◌+◌, ◌-◌, ◌^◌, min, true, List, length, set, slice_get, get_or, Option, Some}
 use Rattle.std.proofs.Common.{arith, sym, ◌∙◌, ap, subst, inl, inr}
 use Rattle.std.proofs.lemmas.Bool.{cases_eq}
 use Rattle.std.proofs.lemmas.Option.{slice_get_within}
@@ -21,7 +21,8 @@ use Rattle.plays.proofs.Always.{event_kept, in_net}
 use Rattle.plays.specs.Held.{Queued, Held, at_port}
 use Rattle.stepper.specs.NetOf.{net_of, rooms_of}
 use Rattle.stepper.specs.AtState.{AtState, QueueOf}
-use Rattle.stepper.proofs.Lists.{same_some, get_set_here, get_set_there}
+use Rattle.plays.proofs.Rests.{counted_more}
+use Rattle.plays.proofs.Lists.{same_some, get_set_here, get_set_there}
 use Rattle.stepper.specs.Steps.{Wishes}
 use Rattle.stepper.proofs.Wishes.{wish_take, wish_put}
 use Rattle.stepper.proofs.Wires.{wired, move_within, take_port, put_port}
@@ -35,9 +36,6 @@ after m b y c q = record {
   moves = min (m.moves + 1) (2 ^ 64 - 1);
   routes = m.routes;
 }
-
-counted_more : (n m : ℕ) → m ≡ min n (2 ^ 64 - 1) → min (m + 1) (2 ^ 64 - 1) ≡ min (suc n) (2 ^ 64 - 1)
-counted_more n m e = grind (arith)
 
 module _ {B : Type 0} (kind : B → Kind) (stands : B → Streams → ℕ → Type 0) (storages : List Ranked) (g : Graph) (caps : List (Option ℕ)) where
   -- an event is possible, its block and its queue are where it leads, and nothing else changed

@@ -1,9 +1,6 @@
 -- A block puts a token.
-use Rattle.std.specs.Prelude.{◌≡◌, ◌<◌, ◌≤◌, ℕ, ◌+◌, ◌-◌, ◌^◌, min, Bool, true, false, not, cond, List, [], ◌∷◌, ◌++◌, length, take, set, slice_get, get_or, Option, Some, None, refl}
-use Rattle.std.proofs.Common.{arith, sym, ◌∙◌, ap, subst, append-nil, length-append, get_or-set_same, get_or-set_other, inl, inr}
-use Rattle.std.proofs.lemmas.Bool.{cases_eq}
-use Rattle.std.proofs.lemmas.List.{length-set}
-use Rattle.std.proofs.Math.Seq.{take-append_seam}
+use Rattle.std.specs.Prelude.{◌≡◌, ◌<◌, ℕ, ◌+◌, ◌-◌, ◌^◌, min, Bool, true, false, not, cond, List, [], ◌∷◌, ◌++◌, length, set, slice_get, get_or, Some, None, refl}
+use Rattle.std.proofs.Common.{arith, sym, ◌∙◌, ap, subst}
 use Rattle.std.proofs.Math.Logic.{∥∥₁_elim, ∥∥₁_map}
 use Rattle.std.specs.Coded.{le_prop}
 use Rattle.stream_tokens.specs.declared.Token.{Token}
@@ -13,45 +10,17 @@ use Rattle.block_core.specs.Ports.{Streams}
 use Rattle.block_core.specs.Kind.{Kind, moves}
 use Rattle.graph.specs.Wiring.{out_of}
 use Rattle.graph.specs.WholeStreams.{whole_inputs}
-use Rattle.plays.specs.Net.{Net, State, Wired, Waits, can, raise, waiting, has_room}
-use Rattle.plays.proofs.Event.{sent_put, sent_put_there}
+use Rattle.plays.specs.Net.{Waits, can, raise, waiting, has_room}
 use Rattle.plays.proofs.Waiting.{waits_length, waits_put, waits_put_there, can_put}
 use Rattle.plays.specs.Held.{Queued, Held, at_port}
 use Rattle.stepper.specs.NetOf.{net_of, rooms_of}
 use Rattle.stepper.specs.AtState.{AtState, Somewhere}
-use Rattle.plays.specs.Told.{Grew, GrewAt, one_told, HasLists}
+use Rattle.plays.specs.Told.{Tapped, Grew, one_told, HasLists}
 use Rattle.stepper.specs.Steps.{Wishes, WaitsOn, Moved, hindrance_of}
-use Rattle.stepper.proofs.Lists.{some_in, set_twice, set_same}
+use Rattle.plays.proofs.Lists.{some_in}
+use Rattle.plays.proofs.Tellings.{told_put, not_full}
 use Rattle.stepper.proofs.Wires.{wired}
 use Rattle.stepper.proofs.Moving.{after, moved, put_facts}
-
--- a put is told of its own channel alone
-told_put : (net : Net) (s : State) (b p : ℕ) (t : Token) (told : Option (List (List Token))) → Wired net → slice_get (net.moves b) (s b) ≡ Some (Putting p t)
-    → HasLists net.channels told → Grew net s (raise b s) told (one_told (net.out_of b p) t told)
-told_put net s b p t None w e lists = tt
-told_put net s b p t (Some ts) w e lists =
-    let c : ℕ = net.out_of b p in
-    let l : c < net.channels = (w.put b (s b) p t e).2 in
-    let lc : c < length ts = omega (arith, l, lists) in
-    let new : List (List Token) = set ts c (get_or ts c [] ++ t ∷ []) in (
-      length-set ts c (get_or ts c [] ++ t ∷ []),
-      λ d ld. elim (cases_eq d c) [
-        | inl same ↦
-            let here : GrewAt net s (raise b s) c (get_or ts c []) (get_or new c []) =
-            (t ∷ [], sent_put net s b p t w e, get_or-set_same ts c (get_or ts c [] ++ t ∷ []) [] lc) in
-            subst (λ n. GrewAt net s (raise b s) n (get_or ts n []) (get_or new n [])) (sym same) here
-        | inr other ↦ (
-          [],
-          sent_put_there net s b p t d w e ld other ∙ sym (append-nil _),
-          get_or-set_other ts c d (get_or ts c [] ++ t ∷ []) [] other ∙ sym (append-nil (get_or ts d [])),
-        )
-      ],
-      λ d ld. get_or-set_other ts c d (get_or ts c [] ++ t ∷ []) [] (λ z. omega (arith, z, l, ld)),
-    )
-
-pub not_full : (b : Bool) → not b ≡ false → b ≡ true
-not_full true e = refl
-not_full false e = absurd (cc)
 
 is_full : (b : Bool) → not b ≡ true → b ≡ false
 is_full true e = absurd (cc)
@@ -111,7 +80,7 @@ module _ {B : Type 0} (kind : B → Kind) (stands : B → Streams → ℕ → Ty
       × ((s : Streams) (n : ℕ) (port : ℕ) (t : Token) → stands x s n → slice_get (moves (kind x) s) n ≡ Some (Putting port t) → stands y s (n + 1)))
       → (qs : List Queued) → qs ≡ set m.queues c (record { tokens = q.tokens ++ t ∷ []; room = q.room })
       → (n : ℕ) → n ≡ min (m.moves + 1) (2 ^ 64 - 1)
-      → (told told' : Option (List (List Token))) → HasLists (length m.queues) told → told' ≡ one_told c t told
+      → (told told' : Tapped) → HasLists (length m.queues) told → told' ≡ one_told c t told
       → Moved kind stands b m told (record { blocks = bs; queues = qs; moves = n; routes = m.routes }) told'
   put wishes lb c at q qat open_ bs done qs pushed n counted told told' lists tells storages g caps s h =
       let net = net_of storages g in
@@ -146,26 +115,3 @@ module _ {B : Type 0} (kind : B → Kind) (stands : B → Streams → ℕ → Ty
         subst (AtState kind stands storages g caps (raise b s)) same at',
         subst (Grew net s (raise b s) told) (ap (λ k. one_told k t told) (sym here) ∙ sym tells) told_here,
       )
-
--- a token that was put and taken away again
-pub put_back : (qs qs' qs'' : List Queued) (c : ℕ) (q : Queued) (t : Token) → slice_get qs c ≡ Some q
-    → qs' ≡ set qs c (record { tokens = q.tokens ++ t ∷ []; room = q.room })
-    → qs'' ≡ set qs' c (record { tokens = take (length (q.tokens ++ t ∷ []) - 1) (q.tokens ++ t ∷ []); room = q.room }) → qs'' ≡ qs
-put_back qs qs' qs'' c q t at e f =
-    let n : length (q.tokens ++ t ∷ []) - 1 ≡ length q.tokens = let l = length-append q.tokens (t ∷ []) in omega (arith, l) in
-    let back : take (length (q.tokens ++ t ∷ []) - 1) (q.tokens ++ t ∷ []) ≡ q.tokens =
-    ap (λ k. take k (q.tokens ++ t ∷ [])) n ∙ take-append_seam q.tokens (t ∷ []) in
-    f ∙ ap (λ z. set z c (record { tokens = take (length (q.tokens ++ t ∷ []) - 1) (q.tokens ++ t ∷ []); room = q.room })) e
-    ∙ set_twice qs c _ _ ∙ ap (λ (z : List Token). set qs c (record { tokens = z; room = q.room })) back ∙ set_same qs c q at
-
--- a tap has as many lists as before
-pub lists_put : (n c : ℕ) (t : Token) (told told' : Option (List (List Token))) → told' ≡ one_told c t told → HasLists n told → HasLists n told'
-lists_put n c t told told' e lists = subst (HasLists n) (sym e) (there told lists)
-  where
-    there : (told : Option (List (List Token))) → HasLists n told → HasLists n (one_told c t told)
-    there None lists = tt
-    there (Some ts) lists = let l = length-set ts c (get_or ts c [] ++ t ∷ []) in omega (arith, l, lists)
-
-pub lists_fewer : (n m : ℕ) (told : Option (List (List Token))) → m ≤ n → HasLists n told → HasLists m told
-lists_fewer n m None l h = tt
-lists_fewer n m (Some ts) l h = omega (arith, l, h)

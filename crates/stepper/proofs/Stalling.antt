@@ -15,7 +15,7 @@ use Rattle.block_core.specs.Kind.{Kind}
 use Rattle.graph.specs.declared.graphs.Graph.{Graph}
 use Rattle.graph.specs.WholeStreams.{whole_inputs}
 use Rattle.graph.specs.Standing.{block_moves, StandAt, final_position}
-use Rattle.plays.specs.Net.{Net, State, Kept, Rooms, Finished}
+use Rattle.plays.specs.Net.{Net, State, Rooms, Finished, WithinBounds}
 use Rattle.plays.specs.Held.{Held, at_port}
 use Rattle.stepper.specs.NetOf.{net_of}
 use Rattle.stepper.specs.AtState.{Somewhere, Wherever}
@@ -85,7 +85,7 @@ none_below net s within (suc n) b l e =
       | inr more ↦ absurd (other (omega (arith, l, more)))
     ]
 
-pub none_waiting : (net : Net) (rooms : Rooms) (s : State) → Kept net rooms s → waiting_list net s ≡ [] → Finished net s
+pub none_waiting : (net : Net) (rooms : Rooms) (s : State) → WithinBounds net rooms s → waiting_list net s ≡ [] → Finished net s
 none_waiting net rooms s k e b l = none_below net s k.within net.blocks b l e
 
 all_finished : (net : Net) (s : State) (n : ℕ) → ((b : ℕ) → b < n → s b ≡ length (net.moves b)) → waiting_below net s n ≡ []

@@ -1,7 +1,6 @@
 -- A block takes a token.
-use Rattle.std.specs.Prelude.{◌≡◌, ◌<◌, ℕ, ◌+◌, ◌-◌, ◌^◌, min, true, false, cond, nat_lt, List, [], ◌∷◌, length, drop, set, slice_get, get_or, Option, Some, None, refl}
-use Rattle.std.proofs.Common.{arith, sym, ◌∙◌, ap, subst, append-nil}
-use Rattle.std.proofs.lemmas.Bool.Decides.{nat_tests}
+use Rattle.std.specs.Prelude.{◌≡◌, ◌<◌, ℕ, ◌+◌, ◌-◌, ◌^◌, min, true, false, cond, nat_lt, List, [], ◌∷◌, length, drop, set, slice_get, get_or, Some, None, refl}
+use Rattle.std.proofs.Common.{arith, sym, ◌∙◌, ap, subst}
 use Rattle.std.proofs.Math.Logic.{∥∥₁_elim, ∥∥₁_map}
 use Rattle.std.specs.Coded.{le_prop}
 use Rattle.stream_tokens.specs.declared.Token.{Token}
@@ -11,35 +10,17 @@ use Rattle.block_core.specs.Ports.{Streams}
 use Rattle.block_core.specs.Kind.{Kind, moves}
 use Rattle.graph.specs.Wiring.{into}
 use Rattle.graph.specs.WholeStreams.{whole_inputs}
-use Rattle.plays.specs.Net.{Net, State, Waits, can, raise, waiting}
-use Rattle.plays.proofs.Event.{sent_take}
+use Rattle.plays.specs.Net.{Waits, can, raise, waiting}
 use Rattle.plays.proofs.Waiting.{waits_length, waits_take, waits_take_there, front_next, can_take}
 use Rattle.plays.specs.Held.{Queued, Held, at_port}
 use Rattle.stepper.specs.NetOf.{net_of, rooms_of}
 use Rattle.stepper.specs.AtState.{AtState, Somewhere}
-use Rattle.plays.specs.Told.{Grew}
+use Rattle.plays.specs.Told.{Tapped}
 use Rattle.stepper.specs.Steps.{Wishes, WaitsOn, Moved, hindrance_of}
-use Rattle.stepper.proofs.Lists.{some_in}
+use Rattle.plays.proofs.Lists.{some_in}
+use Rattle.plays.proofs.Tellings.{told_take, front_first, front_length}
 use Rattle.stepper.proofs.Wires.{wired}
 use Rattle.stepper.proofs.Moving.{after, moved, take_facts}
-
--- nothing is told of a take
-told_take : (net : Net) (s : State) (b p : ℕ) (t : Token) (told : Option (List (List Token))) → slice_get (net.moves b) (s b) ≡ Some (Taking p t)
-    → Grew net s (raise b s) told told
-told_take net s b p t None e = tt
-told_take net s b p t (Some ts) e = (
-  refl,
-  λ c l. ([], sent_take net s b p t c e ∙ sym (append-nil _), sym (append-nil (get_or ts c []))),
-  λ c l. refl,
-)
-
-front_first : (q : List Token) (t : Token) → slice_get q 0 ≡ Some t → q ≡ t ∷ drop 1 q
-front_first [] t e = absurd (cc)
-front_first (u ∷ q) t e = cc
-
-front_length : (q : List Token) (t : Token) → slice_get q 0 ≡ Some t → nat_lt 0 (length q) ≡ true
-front_length [] t e = absurd (cc)
-front_length (u ∷ q) t e = grind (arith, nat_tests)
 
 no_front : (q : List Token) → slice_get q 0 ≡ None → length q ≡ 0
 no_front [] e = refl
@@ -99,7 +80,7 @@ module _ {B : Type 0} (kind : B → Kind) (stands : B → Streams → ℕ → Ty
       × ((s : Streams) (n : ℕ) → stands x s n → slice_get (moves (kind x) s) n ≡ Some (Taking p t) → stands y s (n + 1)))
       → (qs : List Queued) → qs ≡ set m.queues c (record { tokens = drop 1 q.tokens; room = q.room })
       → (n : ℕ) → n ≡ min (m.moves + 1) (2 ^ 64 - 1)
-      → (told : Option (List (List Token))) → Moved kind stands b m told (record { blocks = bs; queues = qs; moves = n; routes = m.routes }) told
+      → (told : Tapped) → Moved kind stands b m told (record { blocks = bs; queues = qs; moves = n; routes = m.routes }) told
   took wishes lb c at q qat t front bs taken qs popped n counted told storages g caps s h =
       let net = net_of storages g in
       let f = take_facts kind stands storages g caps s m h b p wishes in
@@ -127,7 +108,7 @@ module _ {B : Type 0} (kind : B → Kind) (stands : B → Streams → ℕ → Ty
       (possible, subst (AtState kind stands storages g caps (raise b s)) same at', told_take net s b p t told move)
 
 -- a machine that moved stands somewhere
-pub somewhere_after : {B : Type 0} (kind : B → Kind) (stands : B → Streams → ℕ → Type 0) (m m' : Held B) (b : ℕ) (told told' : Option (List (List Token)))
+pub somewhere_after : {B : Type 0} (kind : B → Kind) (stands : B → Streams → ℕ → Type 0) (m m' : Held B) (b : ℕ) (told told' : Tapped)
     → Moved kind stands b m told m' told' → ∥ (Somewhere kind stands m) ∥₁ → ∥ (Somewhere kind stands m') ∥₁
 somewhere_after kind stands m m' b told told' moves sits =
     ∥∥₁_map sits (λ r. (r.0, r.1, r.2, raise b r.3, (moves r.0 r.1 r.2 r.3 r.4).1))

@@ -1,10 +1,10 @@
 -- How many moves a graph's blocks make, read from what a machine holds.
-use Rattle.std.specs.Prelude.{◌≡◌, ◌<◌, ◌≤◌, ℕ, zero, suc, ◌+◌, Bool, true, false, cond, eqb, List, [], ◌∷◌, length, get_or, refl}
+use Rattle.std.specs.Prelude.{◌≡◌, ◌<◌, ℕ, zero, suc, ◌+◌, true, false, cond, eqb, List, [], ◌∷◌, length, get_or, refl}
 use Rattle.std.proofs.Common.{arith, sym, ◌∙◌, ap, subst, inl, inr}
 use Rattle.std.proofs.lemmas.Bool.{eq-eqb, ne_eqb, cases_eq}
 use mathlib.Core.List.{map}
 use Rattle.stream_tokens.specs.declared.Token.{Token}
-use Rattle.block_core.specs.Ports.{Streams, port}
+use Rattle.block_core.specs.Ports.{port}
 use Rattle.block_core.specs.Kind.{Kind, moves, outputs, ins_of, outs_of}
 use Rattle.plays.specs.Net.{sum_below}
 use Rattle.plays.specs.Held.{Table, at_port}

@@ -1,23 +1,23 @@
 -- How many moves the blocks of a graph make, read from what a machine holds.
-use Rattle.std.specs.Prelude.{◌≡◌, ◌<◌, ◌≤◌, ℕ, zero, suc, ◌+◌, List, [], ◌∷◌, length, slice_get, get_or, Option, Some, refl}
-use Rattle.std.proofs.Common.{arith, sym, ◌∙◌, ap, subst}
+use Rattle.std.specs.Prelude.{◌≡◌, ◌<◌, ℕ, zero, suc, List, [], ◌∷◌, length, slice_get, Option, Some, refl}
+use Rattle.std.proofs.Common.{arith, sym, ◌∙◌, ap}
 use mathlib.Core.List.{map}
 use Rattle.stream_tokens.specs.declared.Token.{Token}
 use Rattle.sam_model.specs.Children.{Ranked}
 use Rattle.block_core.specs.Ports.{Streams, port}
-use Rattle.block_core.specs.Kind.{Kind, DrainKind, moves, outputs}
+use Rattle.block_core.specs.Kind.{Kind, moves, outputs}
 use Rattle.graph.specs.declared.graphs.Graph.{Graph}
 use Rattle.graph.specs.Meaning.{meaning}
 use Rattle.graph.specs.Wiring.{block, channel, WellFormed}
-use Rattle.graph.specs.WholeStreams.{stream_after, whole_inputs}
+use Rattle.graph.specs.WholeStreams.{stream_after}
 use Rattle.graph.specs.Standing.{block_moves}
 use Rattle.graph.proofs.Arity.{same-ins, same-outs}
 use Rattle.plays.specs.Net.{State, sum_below}
-use Rattle.plays.specs.Held.{Held, at_port}
-use Rattle.stepper.specs.Shape.{Shape, WellFormed as ShapeFormed, stream_after as shape_after, whole_of, all_moves, moves_of, kind_at}
+use Rattle.plays.specs.Held.{Held}
+use Rattle.stepper.specs.Shape.{Shape, WellFormed as ShapeFormed, stream_after as shape_after, all_moves, moves_of, kind_at}
 use Rattle.stepper.specs.AtState.{AtState}
 use Rattle.stepper.proofs.Totals.{Read, moves_is}
-use Rattle.stepper.proofs.Lists.{same_some, some_in}
+use Rattle.plays.proofs.Lists.{same_some, some_in}
 
 shape_of : List Ranked → Graph → Shape
 shape_of storages g = record {

@@ -1,47 +1,20 @@
 -- Turns of blocks, one after another.
 use Rattle.std.specs.Prelude.{◌≡◌, ◌<◌, ◌≤◌, ℕ, ◌+◌, Bool, true, false, cond, List, [], ◌∷◌, ◌++◌, length, take, slice_get, get_or, Option, Some, None, refl}
-use Rattle.std.proofs.Common.{arith, sym, ◌∙◌, ap, subst, append-nil, append_assoc}
+use Rattle.std.proofs.Common.{arith, sym, ◌∙◌, ap, subst}
 use Rattle.std.proofs.lemmas.List.{take_more, get_or_default}
 use Rattle.std.proofs.lemmas.Option.{slice_get_past}
-use Rattle.stream_tokens.specs.declared.Token.{Token}
 use Rattle.block_core.specs.Move.{Move, Taking, Putting}
 use Rattle.block_core.specs.Ports.{Streams}
 use Rattle.block_core.specs.Kind.{Kind}
 use Rattle.plays.specs.Net.{Net, Rooms, State, Stuck, can, can_move, turn, play}
+use Rattle.plays.proofs.Tellings.{grew_same, grew_then}
 use Rattle.plays.proofs.Always.{turn_made, turn_idle, play_append}
 use Rattle.plays.specs.Held.{Held}
 use Rattle.stepper.specs.NetOf.{net_of, rooms_of}
 use Rattle.stepper.specs.AtState.{AtState, Wherever}
-use Rattle.plays.specs.Told.{Grew, HasLists}
-use Rattle.stepper.specs.Steps.{WaitsOn, Through, Moved, SameShape, hindrance, hindrance_of}
+use Rattle.plays.specs.Told.{Tapped, Grew, HasLists}
+use Rattle.stepper.specs.Steps.{WaitsOn, HasEnded, Moved, SameShape, hindrance, hindrance_of}
 use Rattle.stepper.specs.Runs.{Played, Turned, Onwards}
-
--- ---- what a tap is told
-
-abbrev Lists : Type 0
-Lists = Option (List (List Token))
-
-pub grew_same : (net : Net) (s : State) (told : Lists) → Grew net s s told told
-grew_same net s None = tt
-grew_same net s (Some ts) = (refl, λ c l. ([], sym (append-nil _), sym (append-nil (get_or ts c []))), λ c l. refl)
-
-pub grew_then : (net : Net) (s t u : State) (x y z : Lists) → Grew net s t x y → Grew net t u y z → Grew net s u x z
-grew_then net s t u None None None a b = tt
-grew_then net s t u None None (Some z) a b = absurd b
-grew_then net s t u None (Some y) z a b = absurd a
-grew_then net s t u (Some x) None z a b = absurd a
-grew_then net s t u (Some x) (Some y) None a b = absurd b
-grew_then net s t u (Some x) (Some y) (Some z) a b = (
-  b.0 ∙ a.0,
-  λ c l.
-      let p = a.1 c l in
-      let q = b.1 c l in (
-        p.0 ++ q.0,
-        q.1 ∙ ap (λ (w : List Token). w ++ q.0) p.1 ∙ append_assoc _ p.0 q.0,
-        q.2 ∙ ap (λ (w : List Token). w ++ q.0) p.2 ∙ append_assoc (get_or x c []) p.0 q.0,
-      ),
-  λ c l. b.2 c l ∙ a.2 c l,
-)
 
 -- ---- a block that has to wait, or is through, has no event
 
@@ -65,7 +38,7 @@ through_idle net rooms s b e = ap (can_move net rooms s b) (slice_get_past (net.
 -- ---- one turn
 
 module _ {B : Type 0} (kind : B → Kind) (stands : B → Streams → ℕ → Type 0) where
-  pub turned_moved : (b : ℕ) (m : Held B) (told : Lists) (m' : Held B) (told' : Lists)
+  pub turned_moved : (b : ℕ) (m : Held B) (told : Tapped) (m' : Held B) (told' : Tapped)
       → Moved kind stands b m told m' told' → Turned kind stands b true m told m' told'
   turned_moved b m told m' told' moves storages g caps s h =
       let r = moves storages g caps s h in
@@ -75,7 +48,7 @@ module _ {B : Type 0} (kind : B → Kind) (stands : B → Streams → ℕ → Ty
         subst (λ t. Grew (net_of storages g) s t told told') (sym made) r.2,
       )
 
-  turned_idle : (b : ℕ) (m : Held B) (told : Lists) (m' : Held B) (told' : Lists)
+  turned_idle : (b : ℕ) (m : Held B) (told : Tapped) (m' : Held B) (told' : Tapped)
       → Wherever kind stands m (λ net rooms s. can net rooms s b ≡ false) → m' ≡ m → told' ≡ told → Turned kind stands b false m told m' told'
   turned_idle b m told m' told' cannot same same_told storages g caps s h =
       let net = net_of storages g in
@@ -86,23 +59,23 @@ module _ {B : Type 0} (kind : B → Kind) (stands : B → Streams → ℕ → Ty
         subst (λ t. Grew net s t told told') (sym idle) (subst (Grew net s s told) (sym same_told) (grew_same net s told)),
       )
 
-  pub turned_blocked : (b c : ℕ) (full : Bool) (m : Held B) (told : Lists) (m' : Held B) (told' : Lists)
+  pub turned_blocked : (b c : ℕ) (full : Bool) (m : Held B) (told : Tapped) (m' : Held B) (told' : Tapped)
       → (m' ≡ m) × (told' ≡ told) × WaitsOn kind stands b c full m → Turned kind stands b false m told m' told'
   turned_blocked b c full m told m' told' h =
       turned_idle b m told m' told' (λ storages g caps s a. hindered_idle (net_of storages g) (rooms_of caps) s b c full (h.2 storages g caps s a)) h.0 h.1
 
-  pub turned_ended : (b : ℕ) (m : Held B) (told : Lists) (m' : Held B) (told' : Lists)
-      → (m' ≡ m) × (told' ≡ told) × Through kind stands b m → Turned kind stands b false m told m' told'
+  pub turned_ended : (b : ℕ) (m : Held B) (told : Tapped) (m' : Held B) (told' : Tapped)
+      → (m' ≡ m) × (told' ≡ told) × HasEnded kind stands b m → Turned kind stands b false m told m' told'
   turned_ended b m told m' told' h =
       turned_idle b m told m' told' (λ storages g caps s a. through_idle (net_of storages g) (rooms_of caps) s b (h.2 storages g caps s a)) h.0 h.1
 
   -- ---- a schedule
 
-  pub played_none : (m : Held B) (told : Lists) → Played kind stands [] m told m told
+  pub played_none : (m : Held B) (told : Tapped) → Played kind stands [] m told m told
   played_none m told storages g caps s h = (h, grew_same (net_of storages g) s told)
 
   -- one turn more of a schedule
-  pub played_more : (bs : List ℕ) (i : ℕ) (moved : Bool) (m : Held B) (told : Lists) (m' : Held B) (told' : Lists) (m'' : Held B) (told'' : Lists)
+  pub played_more : (bs : List ℕ) (i : ℕ) (moved : Bool) (m : Held B) (told : Tapped) (m' : Held B) (told' : Tapped) (m'' : Held B) (told'' : Tapped)
       → i < length bs
       → Played kind stands (take i bs) m told m' told' → Turned kind stands (get_or bs i 0) moved m' told' m'' told'' → Played kind stands (take (i + 1) bs) m told m'' told''
   played_more bs i moved m told m' told' m'' told'' l first next storages g caps s h =
@@ -124,19 +97,19 @@ module _ {B : Type 0} (kind : B → Kind) (stands : B → Streams → ℕ → Ty
 pub shape_then : {B : Type 0} (x y z : Held B) → SameShape x y → SameShape y z → SameShape x z
 shape_then x y z a b = (b.0 ∙ a.0, b.1 ∙ a.1, b.2 ∙ a.2)
 
-pub lists_same : (n m : ℕ) (told : Lists) → m ≡ n → HasLists m told → HasLists n told
+pub lists_same : (n m : ℕ) (told : Tapped) → m ≡ n → HasLists m told → HasLists n told
 lists_same n m told e h = subst (λ k. HasLists k told) e h
 
 -- ---- events
 
 module _ {B : Type 0} (kind : B → Kind) (stands : B → Streams → ℕ → Type 0) where
-  pub onwards_none : (m : Held B) (told : Lists) → Onwards kind stands m told m told
+  pub onwards_none : (m : Held B) (told : Tapped) → Onwards kind stands m told m told
   onwards_none m told storages g caps s h = (s, ([], refl), h, grew_same (net_of storages g) s told)
 
-  pub onwards_same : (m : Held B) (told : Lists) (m' : Held B) (told' : Lists) → (m' ≡ m) × (told' ≡ told) → Onwards kind stands m told m' told'
+  pub onwards_same : (m : Held B) (told : Tapped) (m' : Held B) (told' : Tapped) → (m' ≡ m) × (told' ≡ told) → Onwards kind stands m told m' told'
   onwards_same m told m' told' e = subst (λ z. Onwards kind stands m told z told') (sym e.0) (subst (Onwards kind stands m told m) (sym e.1) (onwards_none m told))
 
-  pub onwards_then : (m : Held B) (told : Lists) (m' : Held B) (told' : Lists) (m'' : Held B) (told'' : Lists)
+  pub onwards_then : (m : Held B) (told : Tapped) (m' : Held B) (told' : Tapped) (m'' : Held B) (told'' : Tapped)
       → Onwards kind stands m told m' told' → Onwards kind stands m' told' m'' told'' → Onwards kind stands m told m'' told''
   onwards_then m told m' told' m'' told'' first next storages g caps s h =
       let net = net_of storages g in
@@ -149,13 +122,13 @@ module _ {B : Type 0} (kind : B → Kind) (stands : B → Streams → ℕ → Ty
         grew_then net s p.0 q.0 told told' told'' p.3 q.3,
       )
 
-  pub onwards_turned : (b : ℕ) (moved : Bool) (m : Held B) (told : Lists) (m' : Held B) (told' : Lists)
+  pub onwards_turned : (b : ℕ) (moved : Bool) (m : Held B) (told : Tapped) (m' : Held B) (told' : Tapped)
       → Turned kind stands b moved m told m' told' → Onwards kind stands m told m' told'
   onwards_turned b moved m told m' told' h storages g caps s a =
       let r = h storages g caps s a in
       (turn (net_of storages g) (rooms_of caps) s b, (b ∷ [], refl), r.1, r.2)
 
-  pub onwards_moved : (b : ℕ) (m : Held B) (told : Lists) (m' : Held B) (told' : Lists)
+  pub onwards_moved : (b : ℕ) (m : Held B) (told : Tapped) (m' : Held B) (told' : Tapped)
       → Moved kind stands b m told m' told' → Onwards kind stands m told m' told'
   onwards_moved b m told m' told' h = onwards_turned b true m told m' told' (turned_moved kind stands b m told m' told' h)
 

@@ -12,7 +12,7 @@ use Rattle.graph.specs.declared.graphs.Channel.{Channel}
 use Rattle.graph.specs.declared.graphs.Graph.{Graph}
 use Rattle.graph.specs.WholeStreams.{whole_stream}
 use Rattle.plays.specs.Net.{Net, play, start, sum_below}
-use Rattle.stepper.specs.Capacity.{InRange, CapacitiesFor}
+use Rattle.stepper.specs.Capacity.{IsCapacity, CapacitiesFor}
 use Rattle.plays.specs.Held.{Table, at_port}
 use Rattle.stepper.specs.NetOf.{net_of, rooms_of}
 use Rattle.plays.specs.Told.{one_told, HasLists, Grew, GrewAt}
@@ -120,10 +120,10 @@ ports = (refl, refl)
 fits : CapacitiesFor 2 (None ∷ Some 1 ∷ [])
 fits = (refl, in_range)
   where
-    in_range : (k : ℕ) (d : Option ℕ) → k < 2 → InRange (get_or (None ∷ Some 1 ∷ []) k d)
+    in_range : (k : ℕ) (d : Option ℕ) → k < 2 → IsCapacity (get_or (None ∷ Some 1 ∷ []) k d)
     in_range zero d l = tt
     in_range (suc zero) d l = (omega arith, omega arith)
     in_range (suc (suc k)) d l = absurd (omega (arith, l))
 
-nothing-fits : InRange (Some 0) → ⊥
+nothing-fits : IsCapacity (Some 0) → ⊥
 nothing-fits h = omega (arith, h.0)

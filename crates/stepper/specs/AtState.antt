@@ -8,12 +8,12 @@ use Rattle.graph.specs.Wiring.{block, WellFormed}
 use Rattle.graph.specs.Order.{IsForwardOrder}
 use Rattle.graph.specs.WholeStreams.{Consistent}
 use Rattle.graph.specs.Standing.{StandAt}
-use Rattle.plays.specs.Net.{Net, State, Kept, Waits, sum_below}
+use Rattle.plays.specs.Net.{Net, State, WithinBounds, Waits, sum_below}
 use Rattle.plays.specs.Held.{Table, at_port, Routes, Queued, Held}
 use Rattle.stepper.specs.NetOf.{net_of, rooms_of}
 
 -- The table lists these channels at the ports of so many blocks.
-pub record Lists (t : Table) (n : ℕ) (row : ℕ → List ℕ) : Type 0 where
+pub record PortsListed (t : Table) (n : ℕ) (row : ℕ → List ℕ) : Type 0 where
   pub blocks : length t.first ≡ n
   pub within : (b p : ℕ) → b < n → p < length (row b) → get_or t.first b 0 + p < length t.channels
   pub same : (b p : ℕ) → b < n → p < length (row b) → at_port t b p ≡ get_or (row b) p 0
@@ -21,8 +21,8 @@ pub record Lists (t : Table) (n : ℕ) (row : ℕ → List ℕ) : Type 0 where
 -- The routes are those of a graph, and blocks are visited in an order in which its channels lead forwards.
 pub record Routed (g : Graph) (r : Routes) : Type 0 where
   pub few : length g.blocks < 2 ^ 32
-  pub ins : Lists r.ins (length g.blocks) (λ b. (block g b).ins)
-  pub outs : Lists r.outs (length g.blocks) (λ b. (block g b).outs)
+  pub ins : PortsListed r.ins (length g.blocks) (λ b. (block g b).ins)
+  pub outs : PortsListed r.outs (length g.blocks) (λ b. (block g b).outs)
   pub order : IsForwardOrder g r.order
 
 -- what a queue holds was put on its channel and not taken yet, and its limit is the channel's
@@ -37,7 +37,7 @@ pub record AtState {B : Type 0} (kind : B → Kind) (stands : B → Streams → 
   pub well_formed : WellFormed g
   pub consistent : Consistent storages g
   pub standing : StandAt kind stands storages g s m.blocks
-  pub kept : Kept (net_of storages g) (rooms_of caps) s
+  pub kept : WithinBounds (net_of storages g) (rooms_of caps) s
   pub queues_number : length m.queues ≡ length g.channels
   pub queues : (c : ℕ) (q : Queued) → slice_get m.queues c ≡ Some q → QueueOf (net_of storages g) (rooms_of caps) s c q
   pub counted : m.moves ≡ min (sum_below (length g.blocks) s) (2 ^ 64 - 1)

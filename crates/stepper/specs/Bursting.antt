@@ -1,14 +1,13 @@
 -- A burst of one block.
 use Rattle.std.specs.Prelude.{◌≡◌, ◌<◌, ◌≤◌, ℕ, Bool, true, List, length, drop, get_or, Option}
-use Rattle.stream_tokens.specs.declared.Token.{Token}
 use Rattle.sam_model.specs.Children.{Ranked}
 use Rattle.block_core.specs.Ports.{Streams}
 use Rattle.block_core.specs.Kind.{Kind}
 use Rattle.graph.specs.declared.graphs.Graph.{Graph}
-use Rattle.plays.specs.Net.{State, sum_below}
+use Rattle.plays.specs.Net.{State, PlaysTo, sum_below}
 use Rattle.plays.specs.Held.{Table, Held}
-use Rattle.plays.specs.Told.{Grew}
-use Rattle.plays.specs.Rest.{Ends, Leads}
+use Rattle.plays.specs.Told.{Tapped, Grew}
+use Rattle.plays.specs.Rest.{BlockEnds}
 use Rattle.stepper.specs.NetOf.{net_of, rooms_of}
 use Rattle.stepper.specs.AtState.{AtState}
 
@@ -16,13 +15,13 @@ use Rattle.stepper.specs.AtState.{AtState}
 abbrev pub row_of : Table → ℕ → List ℕ
 row_of t b = drop (get_or t.first b 0) t.channels
 
-abbrev pub ends_of : {B : Type 0} → Held B → Option (List (List Token)) → ℕ → Ends
-ends_of m told b = record { queues = m.queues; told = told; moves = m.moves; block = b; ins = row_of m.routes.ins b; outs = row_of m.routes.outs b }
+abbrev pub block_ends : {B : Type 0} → Held B → Tapped → ℕ → BlockEnds
+block_ends m told b = record { queues = m.queues; told = told; moves = m.moves; block = b; ins = row_of m.routes.ins b; outs = row_of m.routes.outs b }
 
 -- events lead to where the machine stands, at least one where the flag says so
 abbrev pub OnwardsBy : {B : Type 0} → (B → Kind) → (B → Streams → ℕ → Type 0)
-    → Held B → Option (List (List Token)) → Held B → Option (List (List Token)) → Bool → Type 0
+    → Held B → Tapped → Held B → Tapped → Bool → Type 0
 OnwardsBy kind stands m told m' told' went =
     (storages : List Ranked) (g : Graph) (caps : List (Option ℕ)) (s : State) → AtState kind stands storages g caps s m
-    → (t : State) × Leads (net_of storages g) (rooms_of caps) s t × AtState kind stands storages g caps t m' × Grew (net_of storages g) s t told told'
+    → (t : State) × PlaysTo (net_of storages g) (rooms_of caps) s t × AtState kind stands storages g caps t m' × Grew (net_of storages g) s t told told'
     × (sum_below (length g.blocks) s ≤ sum_below (length g.blocks) t) × (went ≡ true → sum_below (length g.blocks) s < sum_below (length g.blocks) t)

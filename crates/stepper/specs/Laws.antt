@@ -5,7 +5,7 @@ use Rattle.sam_model.specs.Children.{Ranked}
 use Rattle.graph.specs.declared.graphs.Graph.{Graph}
 use Rattle.graph.specs.Wiring.{WellFormed}
 use Rattle.graph.specs.WholeStreams.{whole_stream, Consistent}
-use Rattle.plays.specs.Net.{State, Wired, Stuck, Finished, Reached, AtMost, NoMore, Fits, Waits, sum_below, sent, got, waiting}
+use Rattle.plays.specs.Net.{State, Wired, Stuck, Finished, Reached, AtMost, NoMore, WithinLimit, Waits, sum_below, sent, got, waiting}
 use Rattle.stepper.specs.NetOf.{net_of, rooms_of}
 
 -- The net of a well formed graph that the stored tensors fit is one to which the laws of plays apply.
@@ -18,7 +18,7 @@ pub record PartWay (storages : List Ranked) (g : Graph) (caps : List (Option ℕ
   pub put : (rest : List Token) × (sent (net_of storages g) s c ++ rest ≡ whole_stream storages g c)
   pub taken : (rest : List Token) × (got (net_of storages g) s c ++ rest ≡ whole_stream storages g c)
   pub order : length (got (net_of storages g) s c) ≤ length (sent (net_of storages g) s c)
-  pub room : Fits (rooms_of caps c) (waiting (net_of storages g) s c)
+  pub room : WithinLimit (rooms_of caps c) (waiting (net_of storages g) s c)
 
 abbrev pub AlwaysPartWay : Type 0
 AlwaysPartWay = (storages : List Ranked) (g : Graph) (caps : List (Option ℕ)) (s : State) → WellFormed g → Consistent storages g
@@ -31,8 +31,8 @@ QueuesArePart = (storages : List Ranked) (g : Graph) (s : State) (c : ℕ) (q : 
     → q ≡ slice_range (whole_stream storages g c) (length (got (net_of storages g) s c)) (length (sent (net_of storages g) s c))
 
 -- There is one state in which every play from the start that ends stuck ends.
-abbrev pub OneEnd : Type 0
-OneEnd = (storages : List Ranked) (g : Graph) (caps : List (Option ℕ)) → WellFormed g → Consistent storages g
+abbrev pub OneStuckState : Type 0
+OneStuckState = (storages : List Ranked) (g : Graph) (caps : List (Option ℕ)) → WellFormed g → Consistent storages g
     → (s : State) × Reached (net_of storages g) (rooms_of caps) s × Stuck (net_of storages g) (rooms_of caps) s
     × ((t : State) → Reached (net_of storages g) (rooms_of caps) t → Stuck (net_of storages g) (rooms_of caps) t → t ≡ s)
 

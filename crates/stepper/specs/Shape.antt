@@ -1,12 +1,11 @@
 -- The whole streams of a graph, from its blocks and channels, and from what a machine holds.
-use Rattle.std.specs.Prelude.{◌≡◌, ◌<◌, ◌≤◌, ℕ, zero, suc, ◌+◌, Bool, true, false, cond, eqb, nat_lt, List, [], ◌∷◌, length, get_or}
+use Rattle.std.specs.Prelude.{◌≡◌, ◌<◌, ℕ, zero, suc, Bool, true, false, cond, eqb, List, [], ◌∷◌, length, get_or}
 use mathlib.Core.List.{map}
 use Rattle.stream_tokens.specs.declared.Token.{Token}
-use Rattle.block_core.specs.Move.{Move}
 use Rattle.block_core.specs.Ports.{Streams, port}
 use Rattle.block_core.specs.Kind.{Kind, DrainKind, moves, outputs, ins_of, outs_of}
 use Rattle.plays.specs.Net.{sum_below}
-use Rattle.plays.specs.Held.{Table, at_port, Queued, Held}
+use Rattle.plays.specs.Held.{Table, at_port, Held}
 
 -- a graph: its blocks' kinds, the channels at their ports, and the block and port at which a channel begins
 pub record Shape : Type 0 where

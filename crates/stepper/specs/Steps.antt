@@ -1,6 +1,5 @@
 -- What one step does.
 use Rattle.std.specs.Prelude.{◌≡◌, ℕ, List, Bool, true, false, cond, nat_lt, length, drop, slice_get, Option, Some, None, IsSome}
-use Rattle.stream_tokens.specs.declared.Token.{Token}
 use Rattle.sam_model.specs.Children.{Ranked}
 use Rattle.block_core.specs.declared.Wish.{Wish}
 use Rattle.block_core.specs.Move.{Move, Taking, Putting, wish_of}
@@ -11,7 +10,7 @@ use Rattle.plays.specs.Net.{Net, Rooms, State, waiting, has_room, can, raise}
 use Rattle.plays.specs.Held.{at_port, Queued, Held}
 use Rattle.stepper.specs.NetOf.{net_of, rooms_of}
 use Rattle.stepper.specs.AtState.{AtState, Wherever}
-use Rattle.plays.specs.Told.{Grew}
+use Rattle.plays.specs.Told.{Tapped, Grew}
 
 -- the channel on which a move has to wait, and whether it waits for room there
 abbrev pub hindrance_of : Net → Rooms → State → ℕ → Option Move → Option (ℕ × Bool)
@@ -33,13 +32,13 @@ abbrev pub WaitsOn : {B : Type 0} → (B → Kind) → (B → Streams → ℕ �
 WaitsOn kind stands b c full m = Wherever kind stands m (λ net rooms s. hindrance net rooms s b ≡ Some (c, full))
 
 -- the block has made all its moves
-abbrev pub Through : {B : Type 0} → (B → Kind) → (B → Streams → ℕ → Type 0) → ℕ → Held B → Type 0
-Through kind stands b m = Wherever kind stands m (λ net rooms s. s b ≡ length (net.moves b))
+abbrev pub HasEnded : {B : Type 0} → (B → Kind) → (B → Streams → ℕ → Type 0) → ℕ → Held B → Type 0
+HasEnded kind stands b m = Wherever kind stands m (λ net rooms s. s b ≡ length (net.moves b))
 
 -- Wherever the machine stood, the event of this block was possible there, and the machine stands where it leads; a tap
 -- was given what it put.
 abbrev pub Moved : {B : Type 0} → (B → Kind) → (B → Streams → ℕ → Type 0) → ℕ
-    → Held B → Option (List (List Token)) → Held B → Option (List (List Token)) → Type 0
+    → Held B → Tapped → Held B → Tapped → Type 0
 Moved kind stands b m told m' told' =
     (storages : List Ranked) (g : Graph) (caps : List (Option ℕ)) (s : State) → AtState kind stands storages g caps s m
     → (can (net_of storages g) (rooms_of caps) s b ≡ true)

@@ -2,7 +2,7 @@
 //!
 //! Each function has no body but its contract, which speaks of the same states as the clauses of the machine's calls.
 
-ghost use Rattle.stepper.specs.Laws.{GraphsAreWired, AlwaysPartWay, QueuesArePart, OneEnd, MoreRoomNeverHurts, RoomSuffices, MoveCount, AllIsSent};
+ghost use Rattle.stepper.specs.Laws.{GraphsAreWired, AlwaysPartWay, QueuesArePart, OneStuckState, MoreRoomNeverHurts, RoomSuffices, MoveCount, AllIsSent};
 
 /// A well formed graph that the stored tensors fit is a net to which every law of plays applies.
 pub fn graphs_are_wired()
@@ -22,7 +22,7 @@ pub fn queues_are_part()
 
 /// Whatever the schedule, plays that end stuck end in one state, and there is such a play.
 pub fn one_end()
-    ensures { OneEnd }
+    ensures { OneStuckState }
 {}
 
 /// Where a play finishes, no play stalls under capacities that are each at least as large.

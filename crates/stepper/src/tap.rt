@@ -2,7 +2,7 @@
 
 ghost use Rattle.std.specs.Prelude.{◌≡◌, ◌<◌, ◌+◌, ℕ, Bool, true, false, List, [], ◌∷◌, ◌++◌, length, slice_get, Option, Some, None, IsOk, IfOk, IfErr, get_or};
 ghost use Rattle.stream_tokens.specs.declared.Token.{Token};
-ghost use Rattle.plays.specs.Told.{one_told, HasLists};
+ghost use Rattle.plays.specs.Told.{Tapped, one_told, HasLists};
 
 use std::alloc::{AllocError, Global};
 use std::marker::Model;
@@ -11,7 +11,7 @@ use stream_tokens::{Stream, Token};
 /// What is given each token that is put.
 pub trait Tap {
     /// The tokens given so far, channel by channel, or nothing.
-    ghost told: { Self → Option (List (List Token)) };
+    ghost told: { Self → Tapped };
 
     /// Whether `on_put` may find no memory.
     ghost may_refuse: { Self → Bool };

@@ -3,8 +3,8 @@
 ghost use Rattle.std.specs.Prelude.{◌≡◌, ◌<◌, ◌+◌, ◌-◌, ◌^◌, min, ℕ, List, Bool, false, Option, Some, length, slice_get, IsOk, IfOk, IfErr};
 ghost use Rattle.stream_tokens.specs.declared.Token.{Token};
 ghost use Rattle.block_core.specs.declared.Wish.TheVariants.{Take as WishTake, Put as WishPut};
-ghost use Rattle.plays.specs.Told.{HasLists};
-ghost use Rattle.stepper.specs.Steps.{Wishes, WaitsOn, Through, Moved, SameShape, BoundedOuts};
+ghost use Rattle.plays.specs.Told.{Tapped, HasLists};
+ghost use Rattle.stepper.specs.Steps.{Wishes, WaitsOn, HasEnded, Moved, SameShape, BoundedOuts};
 ghost use Rattle.stepper.specs.Runs.{Turned};
 
 use super::{Machine, Stepped};
@@ -37,7 +37,7 @@ impl<B: BlockStep + Drop> Machine<B> {
     fn take(&mut self, block: usize, port: u32) -> Result<Stepped, AllocError>
         requires within { block < length self.old.blocks }
         requires wishes { Wishes B.kind B.stands block (WishTake port) self.old }
-        ensures moved { result ≡ Ok Stepped.Moved → (told : Option (List (List Token))) → Moved B.kind B.stands block self.old told self.new told }
+        ensures moved { result ≡ Ok Stepped.Moved → (told : Tapped) → Moved B.kind B.stands block self.old told self.new told }
         ensures blocked { (c : ℕ) (full : Bool) → result ≡ Ok (Stepped.Blocked c full) → (self.new ≡ self.old) × WaitsOn B.kind B.stands block c full self.old }
         ensures no_end { result ≡ Ok Stepped.Ended → ⊥ }
         ensures refused { IfErr result (λ _. self.new ≡ self.old) }
@@ -111,7 +111,7 @@ impl<B: BlockStep + Drop> Machine<B> {
         requires lists { HasLists (length self.old.queues) (T.told tap.old) }
         ensures moved { result ≡ Ok Stepped.Moved → Moved B.kind B.stands block self.old (T.told tap.old) self.new (T.told tap.new) }
         ensures blocked { (c : ℕ) (full : Bool) → result ≡ Ok (Stepped.Blocked c full) → (self.new ≡ self.old) × (T.told tap.new ≡ T.told tap.old) × WaitsOn B.kind B.stands block c full self.old }
-        ensures ended { result ≡ Ok Stepped.Ended → (self.new ≡ self.old) × (T.told tap.new ≡ T.told tap.old) × Through B.kind B.stands block self.old }
+        ensures ended { result ≡ Ok Stepped.Ended → (self.new ≡ self.old) × (T.told tap.new ≡ T.told tap.old) × HasEnded B.kind B.stands block self.old }
         ensures refused { IfErr result (λ _. (self.new ≡ self.old) × (T.told tap.new ≡ T.told tap.old)) }
         ensures same_shape { SameShape self.old self.new }
         ensures lists_stay { HasLists (length self.old.queues) (T.told tap.new) }
@@ -135,7 +135,7 @@ impl<B: BlockStep + Drop> Machine<B> {
         requires lists { HasLists (length self.old.queues) (T.told tap.old) }
         ensures moved { result ≡ Ok Stepped.Moved → Moved B.kind B.stands block self.old (T.told tap.old) self.new (T.told tap.new) }
         ensures blocked { (c : ℕ) (full : Bool) → result ≡ Ok (Stepped.Blocked c full) → (self.new ≡ self.old) × (T.told tap.new ≡ T.told tap.old) × WaitsOn B.kind B.stands block c full self.old }
-        ensures ended { result ≡ Ok Stepped.Ended → (self.new ≡ self.old) × (T.told tap.new ≡ T.told tap.old) × Through B.kind B.stands block self.old }
+        ensures ended { result ≡ Ok Stepped.Ended → (self.new ≡ self.old) × (T.told tap.new ≡ T.told tap.old) × HasEnded B.kind B.stands block self.old }
         ensures refused { IfErr result (λ _. (self.new ≡ self.old) × (T.told tap.new ≡ T.told tap.old)) }
         ensures same_shape { SameShape self.old self.new }
         ensures lists_stay { HasLists (length self.old.queues) (T.told tap.new) }

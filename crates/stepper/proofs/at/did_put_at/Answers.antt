@@ -3,7 +3,7 @@ use Rattle.std.proofs.Math.Logic.{∥∥₁_map}
 use Rattle.std.proofs.lemmas.Option.{slice_get_read}
 use Rattle.block_core.specs.Move.{Putting}
 use Rattle.block_core.specs.Kind.{moves}
-use Rattle.stepper.proofs.Lists.{same_some}
+use Rattle.plays.proofs.Lists.{same_some}
 use Rattle.stepper.proofs.at.did_put_at.Goals as goal
 
 pub did_put-requires : goal.did_put-requires

@@ -4,7 +4,7 @@ use Rattle.std.proofs.lemmas.Result.{IfOk-weaker}
 use Rattle.std.proofs.lemmas.Option.{slice_get_read}
 use Rattle.block_core.specs.Move.{Taking}
 use Rattle.block_core.specs.Kind.{moves}
-use Rattle.stepper.proofs.Lists.{same_some}
+use Rattle.plays.proofs.Lists.{same_some}
 use Rattle.stepper.proofs.at.take_at.Goals as goal
 
 pub take-requires : goal.take-requires

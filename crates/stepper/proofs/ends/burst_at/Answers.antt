@@ -1,6 +1,7 @@
 use Rattle.std.proofs.Common.{rules, refl, false}
 use Rattle.std.proofs.lemmas.Option.{slice_get_read}
-use Rattle.plays.proofs.Rests.{ok_map, err_map, burst_at, may_burst, same_closed}
+use Rattle.block_core.proofs.Pouring.{ok_map, err_map}
+use Rattle.plays.proofs.Rests.{burst_at, may_burst, same_closed}
 use Rattle.stepper.proofs.ends.burst_at.Goals as goal
 
 pub burst-went-requires : goal.burst-went-requires

@@ -2,10 +2,10 @@ use Rattle.std.proofs.Common.{◌≡◌, ◌∙◌, sym, ap, subst, refl, slice_
 use Rattle.std.proofs.lemmas.Option.{slice_get_read}
 use Rattle.plays.specs.Net.{has_room}
 use Rattle.plays.specs.Held.{Queued}
-use Rattle.plays.specs.Rest.{no_queue}
 use Rattle.plays.proofs.Lists.{same_some, get_set_here}
 use Rattle.plays.proofs.Tellings.{not_full, put_back}
-use Rattle.plays.proofs.Rests.{relay_in_port, relay_in_queue, relay_out_port, relay_out_queue, relay_lists, relay_apart, made_relay, relay_waits, relay_same, still_there, pushed, made_same, same_made}
+use Rattle.plays.proofs.Rests.{pushed, made_same, same_made}
+use Rattle.plays.proofs.Relays.{relay_in_port, relay_in_queue, relay_out_port, relay_out_queue, relay_lists, relay_apart, made_relay, relay_waits, relay_same, still_there}
 use Rattle.stepper.proofs.ends.Ends.relay_one.Goals as goal
 
 pub bounds-self-to : goal.bounds-self-to

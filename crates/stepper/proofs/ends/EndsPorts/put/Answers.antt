@@ -2,24 +2,23 @@ use Rattle.std.proofs.Common.{◌≡◌, ◌∙◌, sym, ap, subst, refl, slice_
 use Rattle.std.proofs.lemmas.Option.{slice_get_read}
 use Rattle.plays.specs.Net.{has_room}
 use Rattle.plays.specs.Held.{Queued}
-use Rattle.plays.specs.Rest.{no_queue}
 use Rattle.plays.proofs.Lists.{same_some, get_set_here}
 use Rattle.plays.proofs.Tellings.{not_full, put_back}
-use Rattle.plays.proofs.Rests.{put_port, put_queue, put_lists, made_put, made_same, same_made}
+use Rattle.plays.proofs.Rests.{output_port, output_queue, put_lists, made_put, made_same, same_made}
 use Rattle.stepper.proofs.ends.EndsPorts.put.Goals as goal
 
 pub bounds-self-port : goal.bounds-self-port
-bounds-self-port g c = put_port _ c.args.port c.args.t c.requires
+bounds-self-port g c = output_port _ c.args.port c.args.t c.requires
 
 pub index-requires : goal.index-requires
-index-requires g c = let l = put_queue _ c.args.port c.args.t c.requires in omega (arith, l)
+index-requires g c = let l = output_queue _ c.args.port c.args.t c.requires in omega (arith, l)
 
 pub push_at-requires-clause-within : goal.push_at-requires-clause-within
-push_at-requires-clause-within g c = put_queue _ c.args.port c.args.t c.requires
+push_at-requires-clause-within g c = output_queue _ c.args.port c.args.t c.requires
 
 pub push_at-requires-clause-room : goal.push_at-requires-clause-room
 push_at-requires-clause-room g c = λ x at.
-    let q = slice_get_read c.args.self.now.queues.now.items _ (get_or c.args.self.now.outs.now c.args.port 0) c.index.result.now refl (put_queue _ c.args.port c.args.t c.requires) c.index.ensures in
+    let q = slice_get_read c.args.self.now.queues.now.items _ (get_or c.args.self.now.outs.now c.args.port 0) c.index.result.now refl (output_queue _ c.args.port c.args.t c.requires) c.index.ensures in
     let e : c.index.result.now ≡ x = same_some _ x (sym q ∙ at) in
     subst (λ (z : Queued). has_room z.room (length z.tokens) ≡ true) e (not_full _ (sym c.is_full.ensures ∙ c.if-is_full.false))
 
@@ -27,11 +26,11 @@ pub on_put-told-requires : goal.on_put-told-requires
 on_put-told-requires g c = put_lists _ c.args.port c.args.t c.requires
 
 pub unpush_at-requires : goal.unpush_at-requires
-unpush_at-requires g c = let l = put_queue _ c.args.port c.args.t c.requires in omega (arith, l, c.push_at.ensures.same_length)
+unpush_at-requires g c = let l = output_queue _ c.args.port c.args.t c.requires in omega (arith, l, c.push_at.ensures.same_length)
 
 pub returns-in-Err-clause-refused : goal.returns-in-Err-clause-refused
 returns-in-Err-clause-refused g c =
-    let l = put_queue _ c.args.port c.args.t c.requires in
+    let l = output_queue _ c.args.port c.args.t c.requires in
     let place = get_or c.args.self.now.outs.now c.args.port 0 in
     let q = slice_get_read c.args.self.now.queues.now.items _ place c.index.result.now refl l c.index.ensures in
     let back : c.unpush_at.new.queues.items ≡ c.args.self.now.queues.now.items =
@@ -43,7 +42,7 @@ returns-in-Err-clause-refused g c =
 
 pub returns-in-Err-clause-same_ends : goal.returns-in-Err-clause-same_ends
 returns-in-Err-clause-same_ends g c =
-    let l = put_queue _ c.args.port c.args.t c.requires in
+    let l = output_queue _ c.args.port c.args.t c.requires in
     let place = get_or c.args.self.now.outs.now c.args.port 0 in
     let q = slice_get_read c.args.self.now.queues.now.items _ place c.index.result.now refl l c.index.ensures in
     let back : c.unpush_at.new.queues.items ≡ c.args.self.now.queues.now.items =
@@ -55,14 +54,14 @@ returns-in-Err-clause-same_ends g c =
 
 pub returns-clause-put : goal.returns-clause-put
 returns-clause-put g c = λ z.
-    let l = put_queue _ c.args.port c.args.t c.requires in
+    let l = output_queue _ c.args.port c.args.t c.requires in
     let q = slice_get_read c.args.self.now.queues.now.items _ (get_or c.args.self.now.outs.now c.args.port 0) c.index.result.now refl l c.index.ensures in
     made_put _ c.args.port c.args.t _ _ _ c.index.result.now q (sym c.is_full.ensures ∙ c.if-is_full.false)
     (c.in_ok-push_at.ensures.ok c.index.result.now q) c.in_default.ensures.ok c.one_more-self.ensures
 
 pub returns-clause-same_ends : goal.returns-clause-same_ends
 returns-clause-same_ends g c =
-    let l = put_queue _ c.args.port c.args.t c.requires in
+    let l = output_queue _ c.args.port c.args.t c.requires in
     let q = slice_get_read c.args.self.now.queues.now.items _ (get_or c.args.self.now.outs.now c.args.port 0) c.index.result.now refl l c.index.ensures in (
       refl,
       refl,

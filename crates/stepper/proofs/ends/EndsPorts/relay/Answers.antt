@@ -3,7 +3,8 @@ use Rattle.stream_tokens.specs.declared.Token.TheVariants.{Item}
 use Rattle.block_core.specs.Bursts.{relayed}
 use Rattle.block_core.proofs.Pouring.{always-err}
 use Rattle.plays.specs.Rest.{MadeAt, waits_at}
-use Rattle.plays.proofs.Rests.{same_none, same_then, some_read, relayed_start, relay_first, relay_may, relayed_next, relayed_still}
+use Rattle.plays.proofs.Rests.{same_none, same_then, some_read}
+use Rattle.plays.proofs.Relays.{relayed_start, relay_may, relayed_next, relayed_still}
 use Rattle.stepper.proofs.ends.EndsPorts.relay.Goals as goal
 
 pub loop-i-init : goal.loop-i-init

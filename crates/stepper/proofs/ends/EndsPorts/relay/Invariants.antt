@@ -1,6 +1,6 @@
 use Rattle.std.proofs.Common.{◌≡◌}
 use Rattle.plays.specs.Rest.{SameEnds}
-use Rattle.plays.proofs.Rests.{RelayedTo}
+use Rattle.plays.specs.Rest.{RelayedTo}
 use Rattle.stepper.proofs.ends.EndsPorts.relay.Given as goal
 
 abbrev pub invariant-loop-i : goal.invariant-loop-i

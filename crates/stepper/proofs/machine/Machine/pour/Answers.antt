@@ -1,8 +1,8 @@
-use Rattle.std.proofs.Common.{◌≡◌, ◌<◌, sym, ap, subst, length, arith, false}
+use Rattle.std.proofs.Common.{◌<◌, sym, ap, subst, length, arith, false}
 use Rattle.plays.specs.Told.{HasLists}
 use Rattle.plays.specs.Rest.{BurstAt}
 use Rattle.stepper.specs.Bursting.{OnwardsBy}
-use Rattle.plays.proofs.Rests.{ok_map, err_map}
+use Rattle.block_core.proofs.Pouring.{ok_map, err_map}
 use Rattle.stepper.proofs.Bursting.{row_ins, row_outs, may_rows, onwards_rows, sits_on, either_way}
 use Rattle.stepper.specs.Routes.{routes_of}
 use Rattle.stepper.proofs.machine.Machine.pour.Goals as goal

@@ -8,10 +8,11 @@ use Rattle.stepper.specs.Routes.{routes_of}
 use Rattle.stepper.specs.AtState.{AtState, Somewhere}
 use Rattle.plays.specs.Told.{HasLists}
 use Rattle.stepper.specs.Steps.{Wishes}
-use Rattle.stepper.proofs.Lists.{same_some, get_set_here}
+use Rattle.plays.proofs.Lists.{same_some, get_set_here}
 use Rattle.stepper.proofs.Stepping.{same_blocked}
 use Rattle.stepper.proofs.Taking.{somewhere_after}
-use Rattle.stepper.proofs.Putting.{not_full, put_block, put_place, put_queue, put_hindered, put_may, put, put_back, lists_fewer}
+use Rattle.plays.proofs.Tellings.{not_full, put_back, lists_fewer}
+use Rattle.stepper.proofs.Putting.{put_block, put_place, put_queue, put_hindered, put_may, put}
 use Rattle.stepper.proofs.machine.Machine.put.Goals as goal
 
 pub at-channel-requires-clause-block : goal.at-channel-requires-clause-block

@@ -5,7 +5,7 @@ use Rattle.block_core.specs.declared.Wish.TheVariants.{Take}
 use Rattle.stepper.specs.Routes.{routes_of}
 use Rattle.stepper.specs.AtState.{AtState, Somewhere}
 use Rattle.stepper.specs.Steps.{Wishes}
-use Rattle.stepper.proofs.Lists.{some_in}
+use Rattle.plays.proofs.Lists.{some_in}
 use Rattle.stepper.proofs.Stepping.{same_blocked}
 use Rattle.stepper.proofs.Taking.{take_block, take_place, take_queue, take_hindered, take_may, took, somewhere_after}
 use Rattle.stepper.proofs.machine.Machine.take.Goals as goal

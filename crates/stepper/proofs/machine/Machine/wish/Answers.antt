@@ -2,7 +2,7 @@ use Rattle.std.proofs.Common.{◌≡◌, ◌∙◌, sym, ap, slice_get, drop, So
 use Rattle.block_core.specs.Move.{wish_of}
 use Rattle.block_core.specs.Kind.{moves}
 use Rattle.graph.specs.WholeStreams.{whole_inputs}
-use Rattle.stepper.proofs.Lists.{some_in}
+use Rattle.plays.proofs.Lists.{some_in}
 use Rattle.stepper.proofs.machine.Machine.wish.Goals as goal
 
 pub returns : goal.returns

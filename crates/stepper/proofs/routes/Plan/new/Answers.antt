@@ -3,7 +3,7 @@ use Rattle.std.proofs.lemmas.List.{get_or_default}
 use Rattle.graph.specs.declared.graphs.Block.{Block}
 use Rattle.graph.specs.Wiring.{block, no_block}
 use Rattle.stepper.specs.Routes.{table_of}
-use Rattle.stepper.specs.AtState.{Lists}
+use Rattle.stepper.specs.AtState.{PortsListed}
 use Rattle.stepper.proofs.Laying.{lists_more}
 use Rattle.stepper.proofs.routes.Plan.new.Goals as goal
 
@@ -26,7 +26,7 @@ returns c =
     omega (arith, e, c.loop-block.auto.block-index-end, c.loop-block-test.false) in
     record {
       few = c.requires.few_blocks;
-      ins = subst (λ k. Lists (table_of c.loop-block.ins) k (λ b. (block c.args.g.now b).ins)) (sym n) c.loop-block.invariant.0;
-      outs = subst (λ k. Lists (table_of c.loop-block.outs) k (λ b. (block c.args.g.now b).outs)) (sym n) c.loop-block.invariant.1;
+      ins = subst (λ k. PortsListed (table_of c.loop-block.ins) k (λ b. (block c.args.g.now b).ins)) (sym n) c.loop-block.invariant.0;
+      outs = subst (λ k. PortsListed (table_of c.loop-block.outs) k (λ b. (block c.args.g.now b).outs)) (sym n) c.loop-block.invariant.1;
       order = c.in_ok-order.ensures;
     }
