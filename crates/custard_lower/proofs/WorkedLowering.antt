@@ -16,7 +16,7 @@ use Rattle.stream_model.specs.declared.labels.Tree.TheVariants as tree
 use Rattle.graph.specs.declared.graphs.Kind.{Kind}
 use Rattle.graph.specs.declared.graphs.Kind.TheVariants as kind
 use Rattle.custard_lower.specs.declared.drafts.Made.{Made}
-use Rattle.custard_lower.specs.Lowering.{draft}
+use Rattle.custard_lower.specs.Lowering.{program_draft}
 
 -- ---- programs in few words
 
@@ -75,7 +75,7 @@ root = made kind.Root [] (record { tree = tree.Root; attr = attr.Literal 0 } ∷
 -- ---- x(i) = b(i) * c(i)
 
 two_vectors :
-    draft (program (vector ∷ vector ∷ []) vector (0 ∷ []) (term (Access 0 (0 ∷ []) ∷ Access 1 (0 ∷ []) ∷ []) ∷ []) (4 ∷ []))
+    program_draft (program (vector ∷ vector ∷ []) vector (0 ∷ []) (term (Access 0 (0 ∷ []) ∷ Access 1 (0 ∷ []) ∷ []) ∷ []) (4 ∷ []))
     ≡ root
     ∷ made (kind.Scan 0 1) (0 ∷ []) (product 1 1 attr.Coordinate ∷ product 1 1 (attr.Rank 0) ∷ [])
     ∷ made (kind.Scan 1 1) (0 ∷ []) (product 1 2 attr.Coordinate ∷ product 1 2 (attr.Rank 1) ∷ [])
@@ -93,7 +93,7 @@ two_vectors = refl
 -- ---- x(i) = B(i,j) * c(j)
 
 matrix_vector :
-    draft
+    program_draft
     (program (matrix ∷ vector ∷ []) vector (0 ∷ []) (term (Access 0 (0 ∷ 1 ∷ []) ∷ Access 1 (1 ∷ []) ∷ []) ∷ []) (4 ∷ 4 ∷ []))
     ≡ root
     ∷ made (kind.Scan 0 1) (0 ∷ []) (product 1 1 attr.Coordinate ∷ product 1 1 (attr.Rank 0) ∷ [])
@@ -115,7 +115,7 @@ matrix_vector = refl
 -- ---- X(i,j) = B(i,k) * C(k,j), with loops i, k, j
 
 matrix_matrix :
-    draft
+    program_draft
     (program (matrix ∷ matrix ∷ []) matrix (0 ∷ 2 ∷ []) (term (Access 0 (0 ∷ 1 ∷ []) ∷ Access 1 (1 ∷ 2 ∷ []) ∷ []) ∷ [])
     (4 ∷ 4 ∷ 4 ∷ []))
     ≡ root
@@ -142,7 +142,7 @@ matrix_matrix = refl
 -- ---- the same with loops k, i, j
 
 outer_product :
-    draft
+    program_draft
     (program (tensor (1 ∷ 0 ∷ []) ∷ matrix ∷ []) matrix (1 ∷ 2 ∷ [])
     (term (Access 0 (1 ∷ 0 ∷ []) ∷ Access 1 (0 ∷ 2 ∷ []) ∷ []) ∷ []) (4 ∷ 4 ∷ 4 ∷ []))
     ≡ root
@@ -170,7 +170,7 @@ outer_product = refl
 -- ---- x = b(i) * c(i)
 
 dot :
-    draft
+    program_draft
     (program (vector ∷ vector ∷ []) (tensor []) [] (term (Access 0 (0 ∷ []) ∷ Access 1 (0 ∷ []) ∷ []) ∷ []) (4 ∷ []))
     ≡ root
     ∷ made (kind.Scan 0 1) (0 ∷ []) (product 1 1 attr.Coordinate ∷ product 1 1 (attr.Rank 0) ∷ [])
@@ -188,7 +188,7 @@ dot = refl
 -- ---- x(i) = - 2 * b(i) * c(i) * d(i)
 
 scaled :
-    draft
+    program_draft
     (program (vector ∷ vector ∷ vector ∷ []) vector (0 ∷ [])
     (record { minus = true; factors = Literal 2 ∷ Access 0 (0 ∷ []) ∷ Access 1 (0 ∷ []) ∷ Access 2 (0 ∷ []) ∷ [] } ∷ []) (4 ∷ []))
     ≡ root
@@ -215,7 +215,7 @@ scaled = refl
 -- ---- x = b - c
 
 scalars :
-    draft
+    program_draft
     (program (tensor [] ∷ tensor [] ∷ []) (tensor []) [] (difference (Access 0 []) (Access 1 [])) [])
     ≡ root
     ∷ made (kind.Array 0) (0 ∷ []) (product 0 0 (attr.FactorValue 0) ∷ [])
@@ -228,7 +228,7 @@ scalars = refl
 -- ---- x(i) = b(i) - c(i)
 
 vectors :
-    draft
+    program_draft
     (program (vector ∷ vector ∷ []) vector (0 ∷ []) (difference (Access 0 (0 ∷ [])) (Access 1 (0 ∷ []))) (4 ∷ []))
     ≡ root
     ∷ made (kind.Scan 0 1) (0 ∷ []) (product 1 1 attr.Coordinate ∷ product 1 1 (attr.Rank 0) ∷ [])
@@ -276,7 +276,7 @@ sum_of_two =
     ∷ []
 
 matrices :
-    draft
+    program_draft
     (program (matrix ∷ matrix ∷ []) matrix (0 ∷ 1 ∷ []) (term (stored 0 ∷ []) ∷ term (stored 1 ∷ []) ∷ []) (4 ∷ 4 ∷ []))
     ≡ sum_of_two
     ++ (made (kind.WriteLevel 1) (21 ∷ []) [] ∷ made (kind.WriteLevel 2) (28 ∷ []) [] ∷ made kind.WriteValue (31 ∷ []) [] ∷ [])
@@ -303,7 +303,7 @@ third_and_join =
     ∷ []
 
 three_matrices :
-    draft
+    program_draft
     (program (matrix ∷ matrix ∷ matrix ∷ []) matrix (0 ∷ 1 ∷ []) (term (stored 0 ∷ []) ∷ difference (stored 1) (stored 2))
     (4 ∷ 4 ∷ []))
     ≡ sum_of_two ++ third_and_join

@@ -6,6 +6,7 @@ pub mod Values
 pub mod Reductions
 pub mod Unions
 pub mod Lowering
-pub mod DraftGraph
-pub mod Lowered
 pub mod Fans
+pub mod DraftGraph
+pub mod DraftFans
+pub mod Lowered

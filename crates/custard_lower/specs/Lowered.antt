@@ -14,11 +14,11 @@ use Rattle.graph.specs.WholeStreams.{whole_stream, Consistent}
 use Rattle.graph.specs.Assembly.{KindsInRange, FewPayloads}
 use Rattle.graph.specs.Writers.{written_listing}
 use Rattle.custard_lower.specs.DraftGraph.{graph_of}
-use Rattle.custard_lower.specs.Lowering.{draft}
+use Rattle.custard_lower.specs.Lowering.{program_draft}
 
 -- the graph of a program
 abbrev pub low : Program → Graph
-low p = graph_of (draft p)
+low p = graph_of (program_draft p)
 
 -- a program's tensors by ranks, over these entries
 abbrev pub storages_of : Program → List Entries → List Ranked

@@ -13,22 +13,22 @@ use Rattle.custard_lower.specs.Drafts.{no_label}
 use Rattle.custard_lower.specs.Plans.{plan_of}
 use Rattle.custard_lower.specs.Nests.{nest}
 use Rattle.custard_lower.specs.Values.{valued}
-use Rattle.custard_lower.specs.Reductions.{Levels, reduced, pruned, free_loops}
-use Rattle.custard_lower.specs.Unions.{Part, join}
+use Rattle.custard_lower.specs.Reductions.{Levels, reduced, pruned, free_marks}
+use Rattle.custard_lower.specs.Unions.{Part, joined_sides}
 
 -- the root, whose output is every factor's reference before the first loop
 abbrev pub root : Made
 root = record { kind = kind.Root; ins = []; labels = no_label ∷ [] }
 
 -- a term's loops, its values, and the sums over its loops that aren't on the left
-abbrev pub summed : ℕ → Plan → List Made → Levels
-summed term t made =
+abbrev pub summed_levels : ℕ → Plan → List Made → Levels
+summed_levels term t made =
     let n = nest term t (length t.on_left) made in
     let v = valued term t n.made n.references in
     reduced term t.on_left (record { made = v.made; coordinates = n.coordinates; values = v.values })
 
-abbrev pub lowered_term : ℕ → Plan → List Made → Levels
-lowered_term term t made = pruned term (free_loops t.on_left) (summed term t made)
+abbrev pub term_levels : ℕ → Plan → List Made → Levels
+term_levels term t made = pruned term (free_marks t.on_left) (summed_levels term t made)
 
 -- ---- the writers
 
@@ -38,36 +38,36 @@ level_writer coordinates d = record { kind = kind.WriteLevel (suc d); ins = get_
 abbrev pub value_writer : ℕ → Made
 value_writer values = record { kind = kind.WriteValue; ins = values ∷ []; labels = [] }
 
-abbrev pub written : Levels → List Made
-written l = (l.made ++ map (level_writer l.coordinates) (below (length l.coordinates))) ++ value_writer l.values ∷ []
+abbrev pub with_writers : Levels → List Made
+with_writers l = (l.made ++ map (level_writer l.coordinates) (below (length l.coordinates))) ++ value_writer l.values ∷ []
 
 -- ---- all terms
 
 -- the tree of the first level of a term, and of a join
-abbrev pub first_tree : ℕ → Plan → Tree
-first_tree term t = Reduced term (free_loops t.on_left) 1 1
+abbrev pub first_level_tree : ℕ → Plan → Tree
+first_level_tree term t = Reduced term (free_marks t.on_left) 1 1
 
 -- what is joined, without its blocks; the tree is that of its first level
 abbrev pub part : Tree → Levels → Part
 part tree l = record { tree = tree; coordinates = l.coordinates; values = l.values }
 
 -- term number n joined to those before it, whose first level has this tree
-abbrev pub joined_term : Program → ℕ → Tree → Levels → Term → Levels
-joined_term p n tree l t =
+abbrev pub with_term : Program → ℕ → Tree → Levels → Term → Levels
+with_term p n tree l t =
     let plan = plan_of p false t in
-    let more = lowered_term n plan l.made in
-    join n t.minus more.made (part tree l) (part (first_tree n plan) more)
+    let more = term_levels n plan l.made in
+    joined_sides n t.minus more.made (part tree l) (part (first_level_tree n plan) more)
 
 -- the terms from number n on, each joined to those before it
-abbrev pub joined_terms : Program → ℕ → Tree → Levels → List Term → Levels
-joined_terms p n tree l [] = l
-joined_terms p n tree l (t ∷ ts) = joined_terms p (suc n) (Joined n 1) (joined_term p n tree l t) ts
+abbrev pub with_terms : Program → ℕ → Tree → Levels → List Term → Levels
+with_terms p n tree l [] = l
+with_terms p n tree l (t ∷ ts) = with_terms p (suc n) (Joined n 1) (with_term p n tree l t) ts
 
 abbrev pub draft_of : Program → List Term → List Made
 draft_of p [] = []
 draft_of p (t ∷ ts) =
     let plan = plan_of p true t in
-    written (joined_terms p 1 (first_tree 0 plan) (lowered_term 0 plan (root ∷ [])) ts)
+    with_writers (with_terms p 1 (first_level_tree 0 plan) (term_levels 0 plan (root ∷ [])) ts)
 
-abbrev pub draft : Program → List Made
-draft p = draft_of p p.terms
+abbrev pub program_draft : Program → List Made
+program_draft p = draft_of p p.terms

@@ -8,5 +8,5 @@ mask_with mask [] = mask
 mask_with mask (f ∷ factors) = mask_with (bit_or mask (2 ^ f)) factors
 
 -- the number whose bit f is set for each of these factors
-abbrev pub mask_number : List ℕ → ℕ
-mask_number factors = mask_with 0 factors
+abbrev pub factors_mask : List ℕ → ℕ
+factors_mask factors = mask_with 0 factors

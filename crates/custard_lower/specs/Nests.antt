@@ -13,12 +13,17 @@ use Rattle.custard_lower.specs.declared.plans.Plan.{Plan}
 pub use Rattle.custard_lower.specs.declared.nests.Met.{Met}
 pub use Rattle.custard_lower.specs.declared.nests.Nest.{Nest}
 use Rattle.custard_lower.specs.Drafts.{outputs_of}
-use Rattle.custard_lower.specs.Masks.{mask_number}
-use Rattle.custard_lower.specs.Plans.{access, asked, spared}
+use Rattle.custard_lower.specs.Masks.{factors_mask}
+use Rattle.custard_lower.specs.Plans.{plan_access, asked, spared}
+
+-- a draft in which factors were met, and what is met in the end
+pub record Meeting : Type 0 where
+  pub made : List Made
+  pub met : Met
 
 -- the product tree of a term down to a level, which these factors restrict
-abbrev pub product_label : ℕ → ℕ → List ℕ → Attr → Label
-product_label term level factors attr = record { tree = Product term level (mask_number factors); attr = attr }
+abbrev pub product_tree_label : ℕ → ℕ → List ℕ → Attr → Label
+product_tree_label term level factors attr = record { tree = Product term level (factors_mask factors); attr = attr }
 
 -- the outputs of the numbers ws put at the places fs
 abbrev pub placed : List ℕ → List ℕ → List ℕ → List ℕ
@@ -31,13 +36,13 @@ module _ (term : ℕ) (t : Plan) where
   -- the coordinates and the references of these factors
   abbrev pub head_labels : ℕ → List ℕ → List Label
   head_labels level factors =
-      product_label term level factors Coordinate ∷ map (λ f. product_label term level factors (Rank f)) factors
+      product_tree_label term level factors Coordinate ∷ map (λ f. product_tree_label term level factors (Rank f)) factors
 
   -- ---- the blocks below d loops; level d + 1 is theirs
 
   abbrev pub scan : ℕ → List ℕ → ℕ → Made
   scan d references f = record {
-    kind = kind.Scan (access t f).tensor (suc (levels_before (access t f).has d));
+    kind = kind.Scan (plan_access t f).tensor (suc (levels_before (plan_access t f).has d));
     ins = get_or references f 0 ∷ [];
     labels = head_labels (suc d) (f ∷ []);
   }
@@ -54,7 +59,7 @@ module _ (term : ℕ) (t : Plan) where
   repeat d coordinates references f = record {
     kind = kind.Repeat;
     ins = coordinates ∷ get_or references f 0 ∷ [];
-    labels = product_label term (suc d) (asked t d) (Rank f) ∷ [];
+    labels = product_tree_label term (suc d) (asked t d) (Rank f) ∷ [];
   }
 
   -- ---- a level
@@ -65,23 +70,18 @@ module _ (term : ℕ) (t : Plan) where
   first_met (f ∷ fs) w = record { factors = f ∷ []; coordinates = w; references = suc w ∷ [] }
 
   -- an intersecter gives its coordinates, and a reference for each factor
-  abbrev pub meeting : Met → ℕ → ℕ → Met
-  meeting met f base = record {
+  abbrev pub met_with : Met → ℕ → ℕ → Met
+  met_with met f base = record {
     factors = met.factors ++ f ∷ [];
     coordinates = base;
     references = range_with_len (suc base) (suc (length met.factors));
   }
 
   -- the scanners of these factors, whose outputs begin at w, met one by one
-  abbrev pub intersected : ℕ → List Made → Met → ℕ → List ℕ → List Made
-  intersected d made met w [] = made
-  intersected d made met w (f ∷ fs) =
-      intersected d (made ++ intersect d met f w ∷ []) (meeting met f (outputs_of made)) (suc (suc w)) fs
-
-  abbrev pub met_of : ℕ → List Made → Met → ℕ → List ℕ → Met
-  met_of d made met w [] = met
-  met_of d made met w (f ∷ fs) =
-      met_of d (made ++ intersect d met f w ∷ []) (meeting met f (outputs_of made)) (suc (suc w)) fs
+  abbrev pub all_met : ℕ → List Made → Met → ℕ → List ℕ → Meeting
+  all_met d made met w [] = record { made = made; met = met }
+  all_met d made met w (f ∷ fs) =
+      all_met d (made ++ intersect d met f w ∷ []) (met_with met f (outputs_of made)) (suc (suc w)) fs
 
   abbrev pub scanned : ℕ → Nest → List Made
   scanned d nest = nest.made ++ map (scan d nest.references) (asked t d)
@@ -91,13 +91,12 @@ module _ (term : ℕ) (t : Plan) where
   level d nest =
       let w = outputs_of nest.made in
       let first = first_met (asked t d) w in
-      let made = intersected d (scanned d nest) first (suc (suc w)) (drop 1 (asked t d)) in
-      let met = met_of d (scanned d nest) first (suc (suc w)) (drop 1 (asked t d)) in
+      let all = all_met d (scanned d nest) first (suc (suc w)) (drop 1 (asked t d)) in
       record {
-        made = made ++ map (repeat d met.coordinates nest.references) (spared t d);
-        coordinates = nest.coordinates ++ met.coordinates ∷ [];
-        references = placed (placed nest.references (asked t d) met.references) (spared t d)
-            (range_with_len (outputs_of made) (length (spared t d)));
+        made = all.made ++ map (repeat d all.met.coordinates nest.references) (spared t d);
+        coordinates = nest.coordinates ++ all.met.coordinates ∷ [];
+        references = placed (placed nest.references (asked t d) all.met.references) (spared t d)
+            (range_with_len (outputs_of all.made) (length (spared t d)));
       }
 
   -- the first d levels; before the first, each factor's reference is the root's output

@@ -35,12 +35,12 @@ plan_of p first t = record {
 abbrev pub no_access : Access
 no_access = record { tensor = 0; has = [] }
 
-abbrev pub access : Plan → ℕ → Access
-access t f = get_or t.accesses f no_access
+abbrev pub plan_access : Plan → ℕ → Access
+plan_access t f = get_or t.accesses f no_access
 
 -- access f has the d-th loop, counted from 0
 abbrev pub has_loop : Plan → ℕ → ℕ → Bool
-has_loop t d f = get_or (access t f).has d false
+has_loop t d f = get_or (plan_access t f).has d false
 
 -- the accesses that have it, and those that lack it, in their order
 abbrev pub asked : Plan → ℕ → List ℕ
@@ -50,6 +50,6 @@ abbrev pub spared : Plan → ℕ → List ℕ
 spared t d = filter (λ f. not (has_loop t d f)) (below (length t.accesses))
 
 -- at most eight loops and eight accesses
-pub record IsSmall (t : Plan) : Type 0 where
+pub record PlanIsSmall (t : Plan) : Type 0 where
   pub loops : length t.on_left ≤ 8
   pub accesses : length t.accesses ≤ 8

@@ -9,8 +9,8 @@ use Rattle.custard_lower.specs.declared.drafts.Made.{Made}
 pub use Rattle.custard_lower.specs.declared.reductions.Levels.{Levels}
 use Rattle.custard_lower.specs.Drafts.{outputs_of}
 
-abbrev pub reduced_label : ℕ → ℕ → ℕ → ℕ → Attr → Label
-reduced_label term gone prune depth attr = record { tree = tree.Reduced term gone prune depth; attr = attr }
+abbrev pub reduced_tree_label : ℕ → ℕ → ℕ → ℕ → Attr → Label
+reduced_tree_label term gone prune depth attr = record { tree = tree.Reduced term gone prune depth; attr = attr }
 
 -- no tree is deeper than 8
 abbrev pub unpruned : ℕ
@@ -22,13 +22,13 @@ level_at coordinates zero = 0
 level_at coordinates (suc k) = get_or coordinates k 0
 
 -- of these loops, marked by whether they are on the left, those that are and those that aren't
-abbrev pub left_loops : List Bool → ℕ
-left_loops [] = 0
-left_loops (mark ∷ marks) = cond mark (suc (left_loops marks)) (left_loops marks)
+abbrev pub left_marks : List Bool → ℕ
+left_marks [] = 0
+left_marks (mark ∷ marks) = cond mark (suc (left_marks marks)) (left_marks marks)
 
-abbrev pub free_loops : List Bool → ℕ
-free_loops [] = 0
-free_loops (mark ∷ marks) = cond mark (free_loops marks) (suc (free_loops marks))
+abbrev pub free_marks : List Bool → ℕ
+free_marks [] = 0
+free_marks (mark ∷ marks) = cond mark (free_marks marks) (suc (free_marks marks))
 
 module _ (term : ℕ) where
   -- ---- a loop is taken away, where `gone` are gone already and n levels are left before
@@ -39,7 +39,7 @@ module _ (term : ℕ) where
       record {
         kind = kind.SumScalar;
         ins = level_at l.coordinates n ∷ l.values ∷ [];
-        labels = reduced_label term (suc gone) unpruned n Value ∷ [];
+        labels = reduced_tree_label term (suc gone) unpruned n Value ∷ [];
       }
 
   abbrev pub sum_vector : ℕ → Levels → Made
@@ -48,7 +48,7 @@ module _ (term : ℕ) where
       record {
         kind = kind.SumVector;
         ins = level_at l.coordinates (suc n) ∷ l.values ∷ [];
-        labels = reduced_label term (suc gone) unpruned n Coordinate ∷ reduced_label term (suc gone) unpruned n Value ∷ [];
+        labels = reduced_tree_label term (suc gone) unpruned n Coordinate ∷ reduced_tree_label term (suc gone) unpruned n Value ∷ [];
       }
 
   abbrev pub sum_matrix : ℕ → Levels → Made
@@ -58,9 +58,9 @@ module _ (term : ℕ) where
         kind = kind.SumMatrix;
         ins = level_at l.coordinates n ∷ level_at l.coordinates (suc n) ∷ l.values ∷ [];
         labels =
-            reduced_label term (suc gone) unpruned (n - 1) Coordinate
-            ∷ reduced_label term (suc gone) unpruned n Coordinate
-            ∷ reduced_label term (suc gone) unpruned n Value
+            reduced_tree_label term (suc gone) unpruned (n - 1) Coordinate
+            ∷ reduced_tree_label term (suc gone) unpruned n Coordinate
+            ∷ reduced_tree_label term (suc gone) unpruned n Value
             ∷ [];
       }
 
@@ -91,7 +91,7 @@ module _ (term : ℕ) where
   abbrev pub reduced : List Bool → Levels → Levels
   reduced [] l = l
   reduced (true ∷ marks) l = reduced marks l
-  reduced (false ∷ marks) l = reduce (free_loops marks) (left_loops marks) (reduced marks l)
+  reduced (false ∷ marks) l = reduce (free_marks marks) (left_marks marks) (reduced marks l)
 
   -- ---- what has no value is left out
 
@@ -101,7 +101,7 @@ module _ (term : ℕ) where
       record {
         kind = kind.DropValue;
         ins = level_at l.coordinates n ∷ l.values ∷ [];
-        labels = reduced_label term gone n n Coordinate ∷ reduced_label term gone n n Value ∷ [];
+        labels = reduced_tree_label term gone n n Coordinate ∷ reduced_tree_label term gone n n Value ∷ [];
       }
 
   abbrev pub without_values : ℕ → Levels → Levels
@@ -118,7 +118,7 @@ module _ (term : ℕ) where
   drop_fiber gone f l = record {
     kind = kind.DropFiber;
     ins = level_at l.coordinates f ∷ level_at l.coordinates (suc f) ∷ [];
-    labels = reduced_label term gone f f Coordinate ∷ reduced_label term gone f (suc f) Coordinate ∷ [];
+    labels = reduced_tree_label term gone f f Coordinate ∷ reduced_tree_label term gone f (suc f) Coordinate ∷ [];
   }
 
   abbrev pub without_fibers : ℕ → ℕ → Levels → Levels

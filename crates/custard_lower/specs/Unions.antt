@@ -100,8 +100,8 @@ module _ (last levels : ℕ) where
   right_values (suc k) right front = suc front.told
 
 -- the terms before number `last`, left, joined with it, right, after the blocks of both
-abbrev pub join : ℕ → Bool → List Made → Part → Part → Levels
-join last minus made left right =
+abbrev pub joined_sides : ℕ → Bool → List Made → Part → Part → Levels
+joined_sides last minus made left right =
     let levels = length left.coordinates in
     let front = joined_levels last levels made left right levels in
     record {

@@ -11,17 +11,17 @@ use Rattle.custard_lower.specs.declared.drafts.Made.{Made}
 use Rattle.custard_lower.specs.declared.plans.Plan.{Plan}
 pub use Rattle.custard_lower.specs.declared.values.Valued.{Valued}
 use Rattle.custard_lower.specs.Drafts.{outputs_of}
-use Rattle.custard_lower.specs.Plans.{access, asked}
-use Rattle.custard_lower.specs.Nests.{product_label}
+use Rattle.custard_lower.specs.Plans.{plan_access, asked}
+use Rattle.custard_lower.specs.Nests.{product_tree_label}
 
 module _ (term : ℕ) (t : Plan) where
   -- below all loops
   abbrev pub full_label : Attr → Label
-  full_label attr = product_label term (length t.on_left) (asked t (length t.on_left - 1)) attr
+  full_label attr = product_tree_label term (length t.on_left) (asked t (length t.on_left - 1)) attr
 
   abbrev pub array : List ℕ → ℕ → Made
   array references f = record {
-    kind = kind.Array (access t f).tensor;
+    kind = kind.Array (plan_access t f).tensor;
     ins = get_or references f 0 ∷ [];
     labels = full_label (FactorValue f) ∷ [];
   }

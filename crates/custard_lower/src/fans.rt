@@ -3,8 +3,9 @@
 ghost use Rattle.std.specs.Prelude.{◌≡◌, ◌<◌, ◌+◌, ◌^◌, [], ◌++◌, length, map, eqb, IfOk, All};
 ghost use Rattle.std.specs.List.{filter, range_with_len};
 ghost use Rattle.custard_lower.specs.Drafts.{outputs_of};
-ghost use Rattle.custard_lower.specs.DraftGraph.{ReadsWithin, IsSmall, reads_of, port_reads};
-ghost use Rattle.custard_lower.specs.Fans.{fans_of, has_one_reader, channel_from, fan_taker, fan_channel, fan_block, read_channel};
+ghost use Rattle.custard_lower.specs.Fans.{is_single, channel_from, fan_taker, fan_channel, fan_block};
+ghost use Rattle.custard_lower.specs.DraftGraph.{ReadsWithin, DraftIsSmall, reads_of, port_reads};
+ghost use Rattle.custard_lower.specs.DraftFans.{fans_of, read_channel};
 
 use crate::drafts::Made;
 use graph::{Block, Channel, Kind};
@@ -47,7 +48,7 @@ pub(crate) struct Fan {
 
 impl Fan {
     pub(crate) fn has_one(&self) -> bool
-        ensures { result ≡ has_one_reader self.now }
+        ensures { result ≡ is_single self.now.readers }
     {
         self.readers.len() == 1
     }
@@ -129,7 +130,7 @@ fn push_reads(reads: &mut Vec<Read>, block: u32, ins: &Nums) -> Result<(), Alloc
 
 /// The reads of all blocks, in the order of block and port.
 pub(crate) fn reads_of(alloc: Global, made: &Items<Made>) -> Result<Vec<Read>, AllocError>
-    requires { IsSmall made.now }
+    requires { DraftIsSmall made.now }
     ensures { IfOk result (λ reads. reads.items ≡ reads_of made.now) }
 {
     let mut reads = Vec::new(alloc);
@@ -141,7 +142,7 @@ pub(crate) fn reads_of(alloc: Global, made: &Items<Made>) -> Result<Vec<Read>, A
 
 /// The number of outputs of all blocks.
 pub(crate) fn output_count(made: &Items<Made>) -> usize
-    requires { IsSmall made.now }
+    requires { DraftIsSmall made.now }
     ensures { result ≡ outputs_of made.now }
 {
     let mut outputs = 0;
@@ -181,7 +182,7 @@ pub(crate) fn fans_of(
     reads: &[Read],
 ) -> Result<Items<Fan>, AllocError>
     requires within { ReadsWithin made.now }
-    requires small { IsSmall made.now }
+    requires small { DraftIsSmall made.now }
     requires reads { reads.now ≡ reads_of made.now }
     ensures { IfOk result (λ fans. fans ≡ fans_of made.now) }
 {

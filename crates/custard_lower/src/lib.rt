@@ -15,6 +15,3 @@ mod wiring;
 pub use drafts::Made;
 pub use plans::{Access, Plan};
 pub use programs::lower;
-
-#[cfg(test)]
-mod tests;

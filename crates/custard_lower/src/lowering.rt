@@ -2,9 +2,9 @@
 
 ghost use Rattle.std.specs.Prelude.{◌≡◌, ◌≤◌, ◌++◌, true, length, map, drop, IfOk};
 ghost use Rattle.sam_model.specs.Accepted.{accepted, term_fits};
-ghost use Rattle.custard_lower.specs.Plans.{IsSmall};
-ghost use Rattle.custard_lower.specs.Reductions.{left_loops};
-ghost use Rattle.custard_lower.specs.Lowering.{summed as sums_of, lowered_term as lowered, written as writers_of, first_tree as tree_of, part, joined_term as joined_to, joined_terms as all_joined, draft as draft_of_program};
+ghost use Rattle.custard_lower.specs.Plans.{PlanIsSmall};
+ghost use Rattle.custard_lower.specs.Reductions.{left_marks};
+ghost use Rattle.custard_lower.specs.Lowering.{summed_levels, term_levels, with_writers, first_level_tree, part, with_term, with_terms, program_draft};
 
 use crate::drafts::{Draft, Made};
 use crate::nests::Nest;
@@ -40,9 +40,9 @@ impl Levels {
 
 /// The loops of a term, its values, and the sums over its loops that aren't on the left.
 fn summed(t: &NumberedPlan, made: Draft) -> Result<Levels, AllocError>
-    requires { IsSmall t.now.plan.now }
-    ensures summed { IfOk result (λ levels. levels ≡ sums_of t.now.term t.now.plan.now made) }
-    ensures count { IfOk result (λ levels. length levels.coordinates ≡ left_loops t.now.plan.now.on_left) }
+    requires { PlanIsSmall t.now.plan.now }
+    ensures summed { IfOk result (λ levels. levels ≡ summed_levels t.now.term t.now.plan.now made) }
+    ensures count { IfOk result (λ levels. length levels.coordinates ≡ left_marks t.now.plan.now.on_left) }
     ensures few { IfOk result (λ levels. length levels.coordinates ≤ 8) }
 {
     let Nest {
@@ -61,20 +61,20 @@ fn summed(t: &NumberedPlan, made: Draft) -> Result<Levels, AllocError>
 
 /// The same without what has no value.
 fn lowered_term(t: &NumberedPlan, made: Draft) -> Result<Levels, AllocError>
-    requires { IsSmall t.now.plan.now }
-    ensures lowered { IfOk result (λ levels. levels ≡ lowered t.now.term t.now.plan.now made) }
-    ensures count { IfOk result (λ levels. length levels.coordinates ≡ left_loops t.now.plan.now.on_left) }
+    requires { PlanIsSmall t.now.plan.now }
+    ensures lowered { IfOk result (λ levels. levels ≡ term_levels t.now.term t.now.plan.now made) }
+    ensures count { IfOk result (λ levels. length levels.coordinates ≡ left_marks t.now.plan.now.on_left) }
     ensures few { IfOk result (λ levels. length levels.coordinates ≤ 8) }
 {
     let levels = summed(t, made)?;
     levels.pruned(t.term, free_loops(t.plan.on_left.as_slice()))
 }
 
-#[tactic(auto, using(crate::proofs::Blocks::blocks_more))]
+#[tactic(auto, using(crate::proofs::term::Blocks::blocks_more))]
 /// A writer for each level, and one for the values.
 fn written(levels: Levels) -> Result<Draft, AllocError>
     requires { length levels.coordinates ≤ 8 }
-    ensures { IfOk result (λ made. made ≡ writers_of levels) }
+    ensures { IfOk result (λ made. made ≡ with_writers levels) }
 {
     let Levels {
         mut made,
@@ -93,8 +93,8 @@ fn written(levels: Levels) -> Result<Draft, AllocError>
 
 /// The tree of the first level of a term.
 fn first_tree(t: &NumberedPlan) -> Tree
-    requires { IsSmall t.now.plan.now }
-    ensures { result ≡ tree_of t.now.term t.now.plan.now }
+    requires { PlanIsSmall t.now.plan.now }
+    ensures { result ≡ first_level_tree t.now.term t.now.plan.now }
 {
     Tree::Reduced {
         term: t.term,
@@ -116,7 +116,7 @@ fn joined_term(
     requires fits { term_fits p.now.tensors p.now.var_sizes p.now.left t.now ≡ true }
     requires few { length levels.coordinates ≤ 8 }
     requires levels { length levels.coordinates ≡ length p.now.result.order }
-    ensures joined { IfOk result (λ more. more ≡ joined_to p.now n tree levels t.now) }
+    ensures joined { IfOk result (λ more. more ≡ with_term p.now n tree levels t.now) }
     ensures count { IfOk result (λ more. length more.coordinates ≡ length levels.coordinates) }
 {
     let plan = term_plan(levels.made.alloc(), p, false, t)?;
@@ -129,13 +129,13 @@ fn joined_term(
     join(n, t.minus, made, &left, &right)
 }
 
-#[tactic(auto, using(crate::proofs::SmallPlans::term_at_fits, crate::proofs::SmallPlans::few_terms, crate::proofs::JoinedTerms::terms_further))]
+#[tactic(auto, using(crate::proofs::term::SmallPlans::term_at_fits, crate::proofs::term::SmallPlans::few_terms, crate::proofs::join::JoinedTerms::terms_further))]
 /// Joins the terms from the second on, each to those before it; the first one's first level has this tree.
 fn joined_terms(p: &Program, tree: Tree, levels: Levels) -> Result<Levels, AllocError>
     requires accepted { accepted p.now ≡ true }
     requires few { length levels.coordinates ≤ 8 }
     requires levels { length levels.coordinates ≡ length p.now.result.order }
-    ensures joined { IfOk result (λ all. all ≡ all_joined p.now 1 tree levels (drop 1 p.now.terms)) }
+    ensures joined { IfOk result (λ all. all ≡ with_terms p.now 1 tree levels (drop 1 p.now.terms)) }
     ensures few { IfOk result (λ all. length all.coordinates ≤ 8) }
 {
     let mut tree = tree;
@@ -148,11 +148,11 @@ fn joined_terms(p: &Program, tree: Tree, levels: Levels) -> Result<Levels, Alloc
     Ok(levels)
 }
 
-#[tactic(auto, using(crate::proofs::SmallPlans::some_term, crate::proofs::SmallPlans::term_at_fits, crate::proofs::JoinedTerms::drafted))]
+#[tactic(auto, using(crate::proofs::term::SmallPlans::some_term, crate::proofs::term::SmallPlans::term_at_fits, crate::proofs::join::JoinedTerms::drafted))]
 /// The draft of the graph of a program.
 pub(crate) fn draft(alloc: Global, p: &Program) -> Result<Items<Made>, AllocError>
     requires { accepted p.now ≡ true }
-    ensures { IfOk result (λ made. made ≡ draft_of_program p.now) }
+    ensures { IfOk result (λ made. made ≡ program_draft p.now) }
 {
     let plan = term_plan(alloc, p, true, p.terms.get(0))?;
     let root = Label {

@@ -3,11 +3,11 @@
 ghost use Rattle.std.specs.Prelude.{◌≡◌, ◌+◌, ◌*◌, ◌<◌, ◌≤◌, ◌^◌, suc, [], ◌∷◌, ◌++◌, length, map, drop, IfOk, OnOk};
 ghost use Rattle.std.specs.List.{All, range_with_len};
 ghost use Rattle.stream_model.specs.declared.labels.Attr.TheVariants.{Coordinate, Rank};
-ghost use Rattle.stream_model.specs.Masks.{levels_before as levels_until};
+ghost use Rattle.stream_model.specs.Masks.{levels_before};
 ghost use Rattle.custard_lower.specs.Drafts.{outputs_of};
-ghost use Rattle.custard_lower.specs.Masks.{mask_number as number_of};
-ghost use Rattle.custard_lower.specs.Plans.{asked as asked_at, IsSmall};
-ghost use Rattle.custard_lower.specs.Nests.{product_label as label_of, placed, scan, intersect, repeat, first_met, meeting, intersected, met_of, level, nest};
+ghost use Rattle.custard_lower.specs.Masks.{factors_mask};
+ghost use Rattle.custard_lower.specs.Plans.{asked, PlanIsSmall};
+ghost use Rattle.custard_lower.specs.Nests.{product_tree_label, placed, scan, intersect, repeat, first_met, met_with, all_met, level, nest};
 
 use crate::drafts::Draft;
 use crate::plans::NumberedPlan;
@@ -35,7 +35,7 @@ pub(crate) struct Nest {
 /// The number whose bit f is set for each of these factors f.
 fn mask_number(factors: &[u8]) -> u8
     requires { All (λ f. f < 8) factors.now }
-    ensures { result ≡ number_of factors.now }
+    ensures { result ≡ factors_mask factors.now }
 {
     let mut mask = 0u8;
     for f in factors {
@@ -47,7 +47,7 @@ fn mask_number(factors: &[u8]) -> u8
 /// A label of the product tree of a term down to a level, which these factors restrict.
 pub(crate) fn product_label(term: u8, level: u8, factors: &[u8], attr: Attr) -> Label
     requires { All (λ f. f < 8) factors.now }
-    ensures { result ≡ label_of term level factors.now attr }
+    ensures { result ≡ product_tree_label term level factors.now attr }
 {
     Label {
         tree: Tree::Product {
@@ -62,7 +62,7 @@ pub(crate) fn product_label(term: u8, level: u8, factors: &[u8], attr: Attr) -> 
 /// The labels of the coordinates and of the references of these factors.
 fn head_labels(alloc: Global, term: u8, level: u8, factors: &[u8]) -> Result<Vec<Label>, AllocError>
     requires { All (λ f. f < 8) factors.now }
-    ensures { IfOk result (λ labels. labels.items ≡ label_of term level factors.now Coordinate ∷ map (λ f. label_of term level factors.now (Rank f)) factors.now) }
+    ensures { IfOk result (λ labels. labels.items ≡ product_tree_label term level factors.now Coordinate ∷ map (λ f. product_tree_label term level factors.now (Rank f)) factors.now) }
 {
     let mut labels = vec![in alloc; product_label(term, level, factors, Attr::Coordinate)]?;
     for f in factors {
@@ -72,9 +72,9 @@ fn head_labels(alloc: Global, term: u8, level: u8, factors: &[u8]) -> Result<Vec
 }
 
 /// How many of the first d loops an access has.
-#[tactic(auto, using(crate::proofs::Counting::levels_further, crate::proofs::Counting::levels_past, crate::proofs::Counting::levels_few))]
-fn levels_before(has: &[bool], d: usize) -> usize
-    ensures count { result ≡ levels_until has.now d }
+#[tactic(auto, using(crate::proofs::term::Counting::levels_further, crate::proofs::term::Counting::levels_past, crate::proofs::term::Counting::levels_few))]
+fn count_levels(has: &[bool], d: usize) -> usize
+    ensures count { result ≡ levels_before has.now d }
     ensures few { result ≤ d }
 {
     let mut levels = 0;
@@ -87,7 +87,7 @@ fn levels_before(has: &[bool], d: usize) -> usize
 }
 
 /// So many numbers from one on.
-#[tactic(auto, using(crate::proofs::Counting::range_more))]
+#[tactic(auto, using(crate::proofs::term::Counting::range_more))]
 fn numbers_from(alloc: Global, first: u64, count: usize) -> Result<Vec<u64>, AllocError>
     requires { first + count < 2 ^ 64 }
     ensures { IfOk result (λ numbers. numbers.items ≡ range_with_len first count) }
@@ -151,7 +151,7 @@ impl Met {
 impl<'a> NumberedPlan<'a> {
     /// Scans an access's next level below d loops.
     fn scan(&self, made: &mut Draft, d: usize, references: &[u64], f: u8) -> Result<(), AllocError>
-        requires small { IsSmall self.now.plan.now }
+        requires small { PlanIsSmall self.now.plan.now }
         requires within { d < 8 }
         requires access { f < length self.now.plan.now.accesses }
         requires references { length references.now ≡ length self.now.plan.now.accesses }
@@ -160,7 +160,7 @@ impl<'a> NumberedPlan<'a> {
         ensures room { OnOk result (outputs_of made.new < 2 ^ 64) }
     {
         let access = self.plan.access(f as usize);
-        let level = levels_before(access.has.as_slice(), d) + 1;
+        let level = count_levels(access.has.as_slice(), d) + 1;
         let labels = head_labels(made.alloc(), self.term, (d + 1) as u8, &[f])?;
         let kind = Kind::Scan {
             tensor: access.tensor,
@@ -185,7 +185,7 @@ impl<'a> NumberedPlan<'a> {
         requires few { length met.factors < 8 }
         requires room { w + 1 < 2 ^ 64 }
         ensures made { OnOk result (made.new ≡ made.old ++ intersect self.now.term self.now.plan.now d met f w ∷ []) }
-        ensures met { IfOk result (λ more. more ≡ meeting self.now.term self.now.plan.now met f (outputs_of made.old)) }
+        ensures met { IfOk result (λ more. more ≡ met_with self.now.term self.now.plan.now met f (outputs_of made.old)) }
     {
         let ins = met.ins_with(made.alloc(), w)?;
         let Met { mut factors, .. } = met;
@@ -206,7 +206,7 @@ impl<'a> NumberedPlan<'a> {
     }
 
     /// Meets what is met so far with the scanners of these factors, whose outputs begin at w, one by one.
-    #[tactic(auto, using(crate::proofs::Meeting::intersected_next, crate::proofs::Meeting::met_next))]
+    #[tactic(auto, using(crate::proofs::term::Meeting::met_next))]
     fn meet_others(
         &self,
         made: &mut Draft,
@@ -220,8 +220,8 @@ impl<'a> NumberedPlan<'a> {
         requires below { All (λ f. f < 8) factors.now }
         requires few { length met.factors + length factors.now ≤ 8 }
         requires room { w + 2 * length factors.now < 2 ^ 64 }
-        ensures made { OnOk result (made.new ≡ intersected self.now.term self.now.plan.now d made.old met w factors.now) }
-        ensures met { IfOk result (λ last. last ≡ met_of self.now.term self.now.plan.now d made.old met w factors.now) }
+        ensures made { OnOk result (made.new ≡ (all_met self.now.term self.now.plan.now d made.old met w factors.now).made) }
+        ensures met { IfOk result (λ last. last ≡ (all_met self.now.term self.now.plan.now d made.old met w factors.now).met) }
         ensures factors { IfOk result (λ last. last.factors ≡ met.factors ++ factors.now) }
     {
         let mut met = met;
@@ -239,8 +239,8 @@ impl<'a> NumberedPlan<'a> {
         requires below { All (λ f. f < 8) factors.now }
         requires few { length factors.now ≤ 8 }
         requires room { w + 2 * length factors.now < 2 ^ 64 }
-        ensures made { OnOk result (made.new ≡ intersected self.now.term self.now.plan.now d made.old (first_met self.now.term self.now.plan.now factors.now w) (suc (suc w)) (drop 1 factors.now)) }
-        ensures met { IfOk result (λ met. met ≡ met_of self.now.term self.now.plan.now d made.old (first_met self.now.term self.now.plan.now factors.now w) (suc (suc w)) (drop 1 factors.now)) }
+        ensures made { OnOk result (made.new ≡ (all_met self.now.term self.now.plan.now d made.old (first_met self.now.term self.now.plan.now factors.now w) (suc (suc w)) (drop 1 factors.now)).made) }
+        ensures met { IfOk result (λ met. met ≡ (all_met self.now.term self.now.plan.now d made.old (first_met self.now.term self.now.plan.now factors.now w) (suc (suc w)) (drop 1 factors.now)).met) }
         ensures factors { IfOk result (λ met. met.factors ≡ factors.now) }
     {
         match factors {
@@ -261,11 +261,11 @@ impl<'a> NumberedPlan<'a> {
         references: &[u64],
         f: u8,
     ) -> Result<(), AllocError>
-        requires small { IsSmall self.now.plan.now }
+        requires small { PlanIsSmall self.now.plan.now }
         requires within { d < 8 }
         requires access { f < length self.now.plan.now.accesses }
         requires references { length references.now ≡ length self.now.plan.now.accesses }
-        requires asked { met.now.factors ≡ asked_at self.now.plan.now d }
+        requires asked { met.now.factors ≡ asked self.now.plan.now d }
         requires below { All (λ g. g < 8) met.now.factors }
         ensures made { OnOk result (made.new ≡ made.old ++ repeat self.now.term self.now.plan.now d met.now.coordinates references.now f ∷ []) }
         ensures count { OnOk result (outputs_of made.new ≡ outputs_of made.old + 1) }
@@ -290,7 +290,7 @@ impl<'a> NumberedPlan<'a> {
         references: &[u64],
         factors: &[u8],
     ) -> Result<u64, AllocError>
-        requires small { IsSmall self.now.plan.now }
+        requires small { PlanIsSmall self.now.plan.now }
         requires within { d < 8 }
         requires references { length references.now ≡ length self.now.plan.now.accesses }
         requires below { All (λ f. f < length self.now.plan.now.accesses) factors.now }
@@ -314,11 +314,11 @@ impl<'a> NumberedPlan<'a> {
         references: &[u64],
         factors: &[u8],
     ) -> Result<u64, AllocError>
-        requires small { IsSmall self.now.plan.now }
+        requires small { PlanIsSmall self.now.plan.now }
         requires within { d < 8 }
         requires references { length references.now ≡ length self.now.plan.now.accesses }
         requires below { All (λ f. f < length self.now.plan.now.accesses) factors.now }
-        requires asked { met.now.factors ≡ asked_at self.now.plan.now d }
+        requires asked { met.now.factors ≡ asked self.now.plan.now d }
         requires asked_below { All (λ g. g < 8) met.now.factors }
         ensures made { OnOk result (made.new ≡ made.old ++ map (repeat self.now.term self.now.plan.now d met.now.coordinates references.now) factors.now) }
         ensures first { IfOk result (λ w. w ≡ outputs_of made.old) }
@@ -333,7 +333,7 @@ impl<'a> NumberedPlan<'a> {
 
     /// Adds the level below d loops: its factors are scanned and met, and the references of the others repeated.
     fn level(&self, nest: Nest, d: usize) -> Result<Nest, AllocError>
-        requires small { IsSmall self.now.plan.now }
+        requires small { PlanIsSmall self.now.plan.now }
         requires within { d < 8 }
         requires references { length nest.references ≡ length self.now.plan.now.accesses }
         ensures { IfOk result (λ more. more ≡ level self.now.term self.now.plan.now d nest) }
@@ -362,9 +362,9 @@ impl<'a> NumberedPlan<'a> {
     }
 
     /// Adds all levels. Before the first, each factor's reference is the root's output.
-    #[tactic(auto, using(crate::proofs::Nesting::next_level, crate::proofs::Nesting::references_kept, crate::proofs::Nesting::levels_counted))]
+    #[tactic(auto, using(crate::proofs::term::Nesting::next_level, crate::proofs::term::Nesting::references_kept, crate::proofs::term::Nesting::levels_counted))]
     pub(crate) fn nest(&self, made: Draft) -> Result<Nest, AllocError>
-        requires { IsSmall self.now.plan.now }
+        requires { PlanIsSmall self.now.plan.now }
         ensures references { IfOk result (λ whole. length whole.references ≡ length self.now.plan.now.accesses) }
         ensures levels { IfOk result (λ whole. length whole.coordinates ≡ length self.now.plan.now.on_left) }
         ensures nest { IfOk result (λ whole. whole ≡ nest self.now.term self.now.plan.now (length self.now.plan.now.on_left) made) }

@@ -2,12 +2,12 @@
 
 ghost use Rattle.std.specs.Prelude.{true, ◌≡◌, ◌<◌, ◌≤◌, ◌*◌, ◌%◌, ◌^◌, length, not, IfOk};
 ghost use Rattle.std.specs.List.{list_any, All};
-ghost use Rattle.sam_model.specs.Lists.{is_in as in_list};
-ghost use Rattle.sam_model.specs.Denote.{loops_of, has_var as has_variable};
-ghost use Rattle.sam_model.specs.Accepted.{is_access as is_operand, accepted, term_fits};
+ghost use Rattle.sam_model.specs.Lists.{is_in};
+ghost use Rattle.sam_model.specs.Denote.{loops_of, has_var};
+ghost use Rattle.sam_model.specs.Accepted.{is_access, accepted, term_fits};
 ghost use Rattle.stream_model.specs.Terms.{mask_of, literals_of, coefficient_of};
-ghost use Rattle.custard_lower.specs.Plans.{accesses_of, has_literal, plan_of, access, has_loop, asked, spared, IsSmall};
-ghost use Rattle.custard_lower.specs.Reductions.{left_loops};
+ghost use Rattle.custard_lower.specs.Plans.{accesses_of, has_literal, plan_of, plan_access, has_loop, asked, spared, PlanIsSmall};
+ghost use Rattle.custard_lower.specs.Reductions.{left_marks};
 
 use sam_base::Items;
 use sam_model::{Factor, Program, Term};
@@ -36,25 +36,25 @@ pub(crate) struct NumberedPlan<'a> {
     pub plan: &'a Plan,
 }
 
-fn is_in(v: u64, vars: &[u64]) -> bool
-    ensures { result ≡ in_list v vars.now }
+fn is_among(v: u64, vars: &[u64]) -> bool
+    ensures { result ≡ is_in v vars.now }
 {
     vars.iter().any(|w| v == *w)
 }
 
-fn has_var(v: u64, factor: &Factor) -> bool
-    ensures { result ≡ has_variable v factor.now }
+fn factor_has(v: u64, factor: &Factor) -> bool
+    ensures { result ≡ has_var v factor.now }
 {
     match factor {
-        Factor::Access { vars, .. } => is_in(v, vars.as_slice()),
+        Factor::Access { vars, .. } => is_among(v, vars.as_slice()),
         Factor::Literal(_) => false,
     }
 }
 
 fn stands_in(v: u64, factors: &[Factor]) -> bool
-    ensures { result ≡ list_any (has_variable v) factors.now }
+    ensures { result ≡ list_any (has_var v) factors.now }
 {
-    factors.iter().any(|factor| has_var(v, factor))
+    factors.iter().any(|factor| factor_has(v, factor))
 }
 
 /// The variables of a term, in loop order.
@@ -71,7 +71,7 @@ fn loops(alloc: Global, p: &Program, t: &Term) -> Result<Vec<u64>, AllocError>
 fn mask(alloc: Global, loops: &[u64], vars: &[u64]) -> Result<Vec<bool>, AllocError>
     ensures { IfOk result (λ has. has.items ≡ mask_of loops.now vars.now) }
 {
-    loops.iter().map(|v| is_in(*v, vars)).collect(alloc)
+    loops.iter().map(|v| is_among(*v, vars)).collect(alloc)
 }
 
 fn accesses(alloc: Global, loops: &[u64], factors: &[Factor]) -> Result<Items<Access>, AllocError>
@@ -91,7 +91,7 @@ fn accesses(alloc: Global, loops: &[u64], factors: &[Factor]) -> Result<Items<Ac
 }
 
 fn is_literal(factor: &Factor) -> bool
-    ensures { result ≡ not (is_operand factor.now) }
+    ensures { result ≡ not (is_access factor.now) }
 {
     match factor {
         Factor::Access { .. } => false,
@@ -100,7 +100,7 @@ fn is_literal(factor: &Factor) -> bool
 }
 
 fn any_literal(factors: &[Factor]) -> bool
-    ensures { result ≡ list_any (λ f. not (is_operand f)) factors.now }
+    ensures { result ≡ list_any (λ f. not (is_access f)) factors.now }
 {
     factors.iter().any(|factor| is_literal(factor))
 }
@@ -159,8 +159,8 @@ pub(crate) fn term_plan(
     requires accepted { accepted p.now ≡ true }
     requires fits { term_fits p.now.tensors p.now.var_sizes p.now.left t.now ≡ true }
     ensures plan { IfOk result (λ plan. plan ≡ plan_of p.now first t.now) }
-    ensures small { IfOk result (λ plan. IsSmall plan) }
-    ensures levels { IfOk result (λ plan. left_loops plan.on_left ≡ length p.now.result.order) }
+    ensures small { IfOk result (λ plan. PlanIsSmall plan) }
+    ensures levels { IfOk result (λ plan. left_marks plan.on_left ≡ length p.now.result.order) }
 {
     let plan = any_plan(alloc, p, first, t)?;
     Ok(plan)
@@ -169,7 +169,7 @@ pub(crate) fn term_plan(
 impl Plan {
     pub(crate) fn access(&self, f: usize) -> &Access
         requires { f < length self.now.accesses }
-        ensures { result.now ≡ access self.now f }
+        ensures { result.now ≡ plan_access self.now f }
     {
         self.accesses.get(f)
     }

@@ -1,7 +1,7 @@
 //! The sums over the loops that aren't on the left, and the pruning of what has no value, as blocks.
 
 ghost use Rattle.std.specs.Prelude.{◌≡◌, ◌+◌, ◌<◌, ◌≤◌, ◌++◌, take, length, IfOk, OnOk};
-ghost use Rattle.custard_lower.specs.Reductions.{reduced_label as label_of, level_at, left_loops, free_loops as count_free, reduce, reduced, without_values, without_fibers, pruned};
+ghost use Rattle.custard_lower.specs.Reductions.{reduced_tree_label, level_at, left_marks, free_marks, reduce, reduced, without_values, without_fibers, pruned};
 
 use crate::drafts::Draft;
 use graph::Kind;
@@ -22,7 +22,7 @@ pub(crate) struct Levels {
 
 /// A label of the tree of a term without so many loops. Prefixes of length `prune` or more that have no value are left out.
 fn reduced_label(term: u8, gone: u8, prune: u8, depth: u8, attr: Attr) -> Label
-    ensures { result ≡ label_of term gone prune depth attr }
+    ensures { result ≡ reduced_tree_label term gone prune depth attr }
 {
     Label {
         tree: Tree::Reduced {
@@ -38,7 +38,7 @@ fn reduced_label(term: u8, gone: u8, prune: u8, depth: u8, attr: Attr) -> Label
 /// Of these loops, marked by whether they are on the left, how many aren't.
 pub(crate) fn free_loops(on_left: &[bool]) -> u8
     requires { length on_left.now ≤ 8 }
-    ensures { result ≡ count_free on_left.now }
+    ensures { result ≡ free_marks on_left.now }
 {
     let mut free = 0;
     for mark in on_left {
@@ -144,7 +144,7 @@ impl Levels {
         requires levels { length on_left.now ≡ length self.coordinates }
         requires few { length self.coordinates ≤ 8 }
         ensures reduced { IfOk result (λ levels. levels ≡ reduced term on_left.now self) }
-        ensures count { IfOk result (λ levels. length levels.coordinates ≡ left_loops on_left.now) }
+        ensures count { IfOk result (λ levels. length levels.coordinates ≡ left_marks on_left.now) }
         ensures few { IfOk result (λ levels. length levels.coordinates ≤ 8) }
     {
         let mut gone = 0;

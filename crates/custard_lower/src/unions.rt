@@ -3,7 +3,7 @@
 ghost use Rattle.std.specs.Prelude.{◌≡◌, ◌+◌, ◌<◌, ◌≤◌, ◌^◌, suc, eqb, [], ◌∷◌, ◌++◌, length, IfOk, OnOk};
 ghost use Rattle.stream_model.specs.declared.labels.Side.TheVariants.{Left, Right};
 ghost use Rattle.custard_lower.specs.Drafts.{outputs_of};
-ghost use Rattle.custard_lower.specs.Unions.{joined_label, fill, filled, flank, marked, payload, told_attr, union, joined_level, joined_levels, sum, join as joined};
+ghost use Rattle.custard_lower.specs.Unions.{joined_label, fill, filled, flank, marked, payload, told_attr, union, joined_level, joined_levels, sum, joined_sides};
 
 use crate::drafts::Draft;
 use crate::reductions::Levels;
@@ -212,7 +212,7 @@ impl Joining {
         })
     }
 
-    #[tactic(auto, using(crate::proofs::Joining::next_joined, crate::proofs::Joining::joined_counted))]
+    #[tactic(auto, using(crate::proofs::join::Joining::next_joined, crate::proofs::join::Joining::joined_counted))]
     /// Joins all levels.
     fn levels(&self, made: Draft, left: &Part, right: &Part) -> Result<Front, AllocError>
         requires few { self.now.levels ≤ 8 }
@@ -256,7 +256,7 @@ pub(crate) fn join(
 ) -> Result<Levels, AllocError>
     requires few { length left.now.coordinates ≤ 8 }
     requires levels { length right.now.coordinates ≡ length left.now.coordinates }
-    ensures joined { IfOk result (λ levels. levels ≡ joined last minus made left.now right.now) }
+    ensures joined { IfOk result (λ levels. levels ≡ joined_sides last minus made left.now right.now) }
     ensures count { IfOk result (λ levels. length levels.coordinates ≡ length left.now.coordinates) }
 {
     let levels = left.coordinates.len();

@@ -3,7 +3,7 @@
 ghost use Rattle.std.specs.Prelude.{◌≡◌, ◌+◌, ◌-◌, ◌<◌, ◌^◌, suc, [], ◌∷◌, ◌++◌, length, IfOk, OnOk};
 ghost use Rattle.std.specs.List.{range_with_len};
 ghost use Rattle.custard_lower.specs.Drafts.{outputs_of};
-ghost use Rattle.custard_lower.specs.Plans.{IsSmall};
+ghost use Rattle.custard_lower.specs.Plans.{PlanIsSmall};
 ghost use Rattle.custard_lower.specs.Values.{full_label, array, arrays, product, multiplied, scaled, valued};
 
 use crate::drafts::Draft;
@@ -23,7 +23,7 @@ pub(crate) struct Valued {
 impl<'a> NumberedPlan<'a> {
     /// A label below all loops.
     fn full_label(&self, alloc: Global, attr: Attr) -> Result<Label, AllocError>
-        requires { IsSmall self.now.plan.now }
+        requires { PlanIsSmall self.now.plan.now }
         ensures { IfOk result (λ label. label ≡ full_label self.now.term self.now.plan.now attr) }
     {
         let loops = self.plan.on_left.len();
@@ -33,7 +33,7 @@ impl<'a> NumberedPlan<'a> {
 
     /// The values of an access.
     fn array(&self, made: &mut Draft, references: &[u64], f: usize) -> Result<(), AllocError>
-        requires small { IsSmall self.now.plan.now }
+        requires small { PlanIsSmall self.now.plan.now }
         requires access { f < length self.now.plan.now.accesses }
         requires references { length references.now ≡ length self.now.plan.now.accesses }
         ensures made { OnOk result (made.new ≡ made.old ++ array self.now.term self.now.plan.now references.now f ∷ []) }
@@ -49,9 +49,9 @@ impl<'a> NumberedPlan<'a> {
     }
 
     /// The values of each access, and the number of the first one's output.
-    #[tactic(auto, using(crate::proofs::Blocks::blocks_more))]
+    #[tactic(auto, using(crate::proofs::term::Blocks::blocks_more))]
     fn arrays(&self, made: &mut Draft, references: &[u64]) -> Result<u64, AllocError>
-        requires small { IsSmall self.now.plan.now }
+        requires small { PlanIsSmall self.now.plan.now }
         requires references { length references.now ≡ length self.now.plan.now.accesses }
         ensures made { OnOk result (made.new ≡ arrays self.now.term self.now.plan.now made.old references.now) }
         ensures first { IfOk result (λ w. w ≡ outputs_of made.old) }
@@ -72,7 +72,7 @@ impl<'a> NumberedPlan<'a> {
         values: u64,
         value: u64,
     ) -> Result<u64, AllocError>
-        requires small { IsSmall self.now.plan.now }
+        requires small { PlanIsSmall self.now.plan.now }
         requires access { k < length self.now.plan.now.accesses }
         ensures made { OnOk result (made.new ≡ made.old ++ product self.now.term self.now.plan.now k values value ∷ []) }
         ensures first { IfOk result (λ w. w ≡ outputs_of made.old) }
@@ -82,9 +82,9 @@ impl<'a> NumberedPlan<'a> {
     }
 
     /// Multiplies the values of all accesses, whose outputs begin at w, one by one.
-    #[tactic(auto, using(crate::proofs::Blocks::product_next, crate::proofs::Blocks::product_ends))]
+    #[tactic(auto, using(crate::proofs::term::Blocks::product_next, crate::proofs::term::Blocks::product_ends))]
     fn multiplied(&self, made: Draft, w: u64) -> Result<Valued, AllocError>
-        requires small { IsSmall self.now.plan.now }
+        requires small { PlanIsSmall self.now.plan.now }
         requires room { w + length self.now.plan.now.accesses < 2 ^ 64 }
         ensures { IfOk result (λ v. v ≡ multiplied self.now.term self.now.plan.now (record { made = made; values = w }) (suc w) (range_with_len 1 (length self.now.plan.now.accesses - 1))) }
     {
@@ -97,7 +97,7 @@ impl<'a> NumberedPlan<'a> {
 
     /// Multiplies the values with the coefficient, where there is one.
     fn scaled(&self, valued: Valued) -> Result<Valued, AllocError>
-        requires { IsSmall self.now.plan.now }
+        requires { PlanIsSmall self.now.plan.now }
         ensures { IfOk result (λ v. v ≡ scaled self.now.term self.now.plan.now self.now.plan.now.coefficient valued) }
     {
         let Some(c) = self.plan.coefficient else {
@@ -113,7 +113,7 @@ impl<'a> NumberedPlan<'a> {
 
     /// An array for each access, their product, and the coefficient.
     pub(crate) fn valued(&self, made: Draft, references: &[u64]) -> Result<Valued, AllocError>
-        requires small { IsSmall self.now.plan.now }
+        requires small { PlanIsSmall self.now.plan.now }
         requires references { length references.now ≡ length self.now.plan.now.accesses }
         ensures { IfOk result (λ v. v ≡ valued self.now.term self.now.plan.now made references.now) }
     {

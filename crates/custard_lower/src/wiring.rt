@@ -2,8 +2,9 @@
 
 ghost use Rattle.std.specs.Prelude.{◌≡◌, ◌<◌, ◌≤◌, ◌+◌, ◌^◌, ◌++◌, length, map, IfOk};
 ghost use Rattle.std.specs.List.{range_with_len};
-ghost use Rattle.custard_lower.specs.DraftGraph.{ReadsWithin, IsSmall, reads_of, channel_to, draft_block, graph_of};
-ghost use Rattle.custard_lower.specs.Fans.{fans_of, port_channel, fan_channels, fan_blocks};
+ghost use Rattle.custard_lower.specs.Fans.{fan_channels, fan_blocks};
+ghost use Rattle.custard_lower.specs.DraftGraph.{ReadsWithin, DraftIsSmall, reads_of, channel_to, draft_block, graph_of};
+ghost use Rattle.custard_lower.specs.DraftFans.{fans_of, port_channel};
 
 use crate::drafts::Made;
 use crate::fans::{Fan, channels_to, fans_of, numbers_from, reads_of};
@@ -51,7 +52,7 @@ fn channels_of(
     made: &Items<Made>,
     fans: &Items<Fan>,
 ) -> Result<Items<Channel>, AllocError>
-    requires small { IsSmall made.now }
+    requires small { DraftIsSmall made.now }
     requires fans { fans.now ≡ fans_of made.now }
     ensures { IfOk result (λ channels. channels ≡ (graph_of made.now).channels) }
 {
@@ -72,7 +73,7 @@ fn draft_blocks(
     made: &Items<Made>,
     channels: &[u64],
 ) -> Result<Items<Block>, AllocError>
-    requires small { IsSmall made.now }
+    requires small { DraftIsSmall made.now }
     requires channels { channels.now ≡ map (channel_to made.now) (reads_of made.now) }
     ensures { IfOk result (λ blocks. blocks ≡ map (draft_block made.now) (range_with_len 0 (length made.now))) }
 {
@@ -118,7 +119,7 @@ fn blocks_of(
     fans: &Items<Fan>,
     channels: &[u64],
 ) -> Result<Items<Block>, AllocError>
-    requires small { IsSmall made.now }
+    requires small { DraftIsSmall made.now }
     requires fans { fans.now ≡ fans_of made.now }
     requires channels { channels.now ≡ map (channel_to made.now) (reads_of made.now) }
     ensures { IfOk result (λ blocks. blocks ≡ (graph_of made.now).blocks) }
@@ -135,7 +136,7 @@ fn blocks_of(
 /// It takes time in proportion to the draft.
 pub(crate) fn graph_of(alloc: Global, made: &Items<Made>) -> Result<Graph, AllocError>
     requires within { ReadsWithin made.now }
-    requires small { IsSmall made.now }
+    requires small { DraftIsSmall made.now }
     ensures { IfOk result (λ g. g ≡ graph_of made.now) }
 {
     let reads = reads_of(alloc, made)?;

@@ -31,6 +31,3 @@ pub fn carried_streams()
     ensures whole { CarriedAreWhole }
     ensures consistent { CarriedAreConsistent }
 {}
-
-#[cfg(test)]
-mod tests;

@@ -3,10 +3,10 @@ use Rattle.std.proofs.lemmas.List.{get_or_default, length-set}
 use Rattle.std.proofs.lemmas.List.Elements.{All-get_or}
 use Rattle.std.proofs.lemmas.Option.{get_or_from_slice_get}
 use Rattle.custard_lower.specs.declared.fans.Fan.{Fan}
-use Rattle.custard_lower.specs.DraftGraph.{no_read}
-use Rattle.custard_lower.specs.Fans.{no_fan, fan_at, fan_channel, read_channel}
-use Rattle.custard_lower.proofs.Pushes.{item-pushed}
-use Rattle.custard_lower.proofs.PlaceSteps.{reads_before, reads-before-most, places-more}
+use Rattle.custard_lower.specs.Fans.{no_read, no_fan, fan_channel}
+use Rattle.custard_lower.specs.DraftFans.{fan_at, read_channel}
+use Rattle.custard_lower.proofs.draft.Pushes.{item-pushed}
+use Rattle.custard_lower.proofs.draft.PlaceSteps.{reads_before, reads-before-most, places-more}
 use Rattle.custard_lower.proofs.fans.channels_to.Goals as goal
 
 pub channel_to-channel-requires : goal.channel_to-channel-requires

@@ -1,7 +1,7 @@
 use Rattle.std.proofs.Common.{◌≡◌, ◌<◌, ℕ, length, get_or, take, eqb, map}
 use Rattle.std.specs.List.{filter, range_with_len}
 use Rattle.custard_lower.specs.declared.fans.Read.{Read}
-use Rattle.custard_lower.specs.Fans.{read_channel}
+use Rattle.custard_lower.specs.DraftFans.{read_channel}
 use Rattle.custard_lower.proofs.fans.channels_to.Given as goal
 
 abbrev pub invariant-loop-read : goal.invariant-loop-read

@@ -6,10 +6,9 @@ use Rattle.std.proofs.lemmas.Iterator.Adapters.{YieldsList-from_vec}
 use Rattle.std.proofs.lemmas.Iterator.Consumers.{YieldsList-turn, YieldsList-end}
 use Rattle.custard_lower.specs.declared.fans.Read.{Read}
 use Rattle.custard_lower.specs.Drafts.{outputs_of}
-use Rattle.custard_lower.specs.DraftGraph.{readers, ending, first_copy}
-use Rattle.custard_lower.specs.Fans.{fan_of}
-use Rattle.custard_lower.proofs.Readers.{reads-within}
-use Rattle.custard_lower.proofs.FanSteps.{ending-fits, first-copy-fits, ending-past-one, first-copy-past-one, ending-past, first-copy-past, next-readers, next-fan}
+use Rattle.custard_lower.specs.DraftGraph.{readers, ending, first_copy, fan_of}
+use Rattle.custard_lower.proofs.draft.Readers.{reads-within}
+use Rattle.custard_lower.proofs.draft.FanSteps.{ending-fits, first-copy-fits, ending-past-one, first-copy-past-one, ending-past, first-copy-past, next-readers, next-fan}
 use Rattle.custard_lower.proofs.fans.fans_of.Goals as goal
 
 pub readers_of-requires : goal.readers_of-requires

@@ -1,7 +1,6 @@
 use Rattle.std.proofs.Common.{◌≡◌, map, length}
 use Rattle.std.specs.List.{range_with_len}
-use Rattle.custard_lower.specs.DraftGraph.{ending, first_copy}
-use Rattle.custard_lower.specs.Fans.{fan_of}
+use Rattle.custard_lower.specs.DraftGraph.{ending, first_copy, fan_of}
 use Rattle.custard_lower.proofs.fans.fans_of.Given as goal
 
 abbrev pub invariant-loop-readers : goal.invariant-loop-readers

@@ -1,5 +1,5 @@
 use Rattle.std.proofs.Common.{[]}
-use Rattle.custard_lower.proofs.Pushes.{item-pushed}
+use Rattle.custard_lower.proofs.draft.Pushes.{item-pushed}
 use Rattle.custard_lower.proofs.fans.no_readers.Goals as goal
 
 pub loop-preserved : goal.loop-preserved

@@ -1,6 +1,6 @@
 use Rattle.std.proofs.Common.{◌≡◌, ◌≤◌, ◌+◌, ◌-◌, ◌∷◌, [], ◌++◌, ℕ, suc, List, sym, ap, ◌∙◌, arith}
 use Rattle.std.specs.List.{range_with_len}
-use Rattle.custard_lower.proofs.Pieces.{range-more}
+use Rattle.custard_lower.proofs.draft.Pieces.{range-more}
 use Rattle.custard_lower.proofs.fans.numbers_from.Goals as goal
 
 one_more : (first n : ℕ) (numbers more : List ℕ) → first ≤ n → numbers ≡ range_with_len first (n - first) → more ≡ numbers ++ (n ∷ [])

@@ -1,7 +1,7 @@
 use Rattle.std.proofs.Common.{◌+◌, ap, arith, length}
 use Rattle.custard_lower.specs.declared.drafts.Made.{Made}
-use Rattle.custard_lower.proofs.GraphPlaces.{first-output-within, first-output-next}
-use Rattle.custard_lower.proofs.ItemReads.{block-read}
+use Rattle.custard_lower.proofs.draft.GraphPlaces.{first-output-within, first-output-next}
+use Rattle.custard_lower.proofs.draft.ItemReads.{block-read}
 use Rattle.custard_lower.proofs.fans.output_count.Goals as goal
 
 pub overflow_add-outputs : goal.overflow_add-outputs

@@ -1,6 +1,6 @@
 use Rattle.std.proofs.Common.{ap}
 use Rattle.custard_lower.specs.DraftGraph.{port_read}
-use Rattle.custard_lower.proofs.Pushes.{item-pushed}
+use Rattle.custard_lower.proofs.draft.Pushes.{item-pushed}
 use Rattle.custard_lower.proofs.fans.push_reads.Goals as goal
 
 pub loop-port-preserved : goal.loop-port-preserved

@@ -1,9 +1,9 @@
 use Rattle.std.proofs.Common.{[], ap, arith, length}
 use Rattle.custard_lower.specs.declared.drafts.Made.{Made}
 use Rattle.custard_lower.specs.DraftGraph.{port_reads, reads_at}
-use Rattle.custard_lower.proofs.Readers.{block-reads-within}
-use Rattle.custard_lower.proofs.Pushes.{piece-pushed}
-use Rattle.custard_lower.proofs.ItemReads.{block-read}
+use Rattle.custard_lower.proofs.draft.Readers.{block-reads-within}
+use Rattle.custard_lower.proofs.draft.Pushes.{piece-pushed}
+use Rattle.custard_lower.proofs.draft.ItemReads.{block-read}
 use Rattle.custard_lower.proofs.fans.reads_of.Goals as goal
 
 pub push_reads-requires : goal.push_reads-requires

@@ -1,4 +1,4 @@
-use Rattle.custard_lower.proofs.SmallPlans.{small-plan, plan-levels}
+use Rattle.custard_lower.proofs.term.SmallPlans.{small-plan, plan-levels}
 use Rattle.custard_lower.proofs.plans.term_plan.Goals as goal
 
 pub returns-clause-small : goal.returns-clause-small

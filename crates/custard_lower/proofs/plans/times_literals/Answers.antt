@@ -1,6 +1,6 @@
 use Rattle.std.proofs.Common.{◌∙◌, arith}
 use Rattle.std.proofs.lemmas.Grind.{common_steps}
-use Rattle.custard_lower.proofs.Literals.{literal-moved}
+use Rattle.custard_lower.proofs.term.Literals.{literal-moved}
 use Rattle.custard_lower.proofs.plans.times_literals.Goals as goal
 use Rattle.custard_lower.proofs.plans.times_literals.Goals.{in-Literal, in_default}
 

@@ -2,13 +2,12 @@ use Rattle.std.proofs.Common.{◌≡◌, ◌++◌, ◌∙◌, ℕ, List, length,
 use Rattle.std.specs.List.{flat_map, range_with_len}
 use Rattle.custard_lower.specs.declared.fans.Fan.{Fan}
 use Rattle.custard_lower.specs.Drafts.{outputs_of}
-use Rattle.custard_lower.specs.DraftGraph.{draft_block, added_blocks}
 use Rattle.custard_lower.specs.Fans.{fan_blocks}
-use Rattle.custard_lower.proofs.Pushes.{piece-pushed}
-use Rattle.custard_lower.proofs.ItemReads.{fans-number, fan-read}
-use Rattle.custard_lower.proofs.FanSteps.{first-copy-fits}
-use Rattle.custard_lower.proofs.ChannelSteps.{readers-most}
-use Rattle.custard_lower.proofs.BlockSteps.{ending-piece}
+use Rattle.custard_lower.specs.DraftGraph.{draft_block, added_blocks}
+use Rattle.custard_lower.proofs.draft.Pushes.{piece-pushed}
+use Rattle.custard_lower.proofs.draft.ItemReads.{fans-number, fan-read}
+use Rattle.custard_lower.proofs.draft.FanSteps.{first-copy-fits}
+use Rattle.custard_lower.proofs.draft.ChannelSteps.{readers-most}
 use Rattle.custard_lower.proofs.wiring.blocks_of.Goals as goal
 
 pub push_ending-requires-clause-number : goal.push_ending-requires-clause-number
@@ -43,7 +42,7 @@ loop-output-preserved c =
     let draft = map (draft_block made) (range_with_len 0 (length made)) in
     piece-pushed (added_blocks made) draft c.loop-output.blocks c.push_ending.new.blocks
     (fan_blocks c.fan-item.result w) w c.loop-output.invariant c.in_ok-push_ending.ensures
-    (ap (λ (f : Fan). fan_blocks f w) read.1 ∙ ending-piece made w)
+    (ap (λ (f : Fan). fan_blocks f w) read.1)
 
 pub returns : goal.returns
 returns c =

@@ -6,12 +6,13 @@ use Rattle.graph.specs.Wiring.{no_channel}
 use Rattle.custard_lower.specs.declared.drafts.Made.{Made}
 use Rattle.custard_lower.specs.declared.fans.Fan.{Fan}
 use Rattle.custard_lower.specs.Drafts.{outputs_of, label_at}
-use Rattle.custard_lower.specs.DraftGraph.{first_output, output_channels, copy_channels}
-use Rattle.custard_lower.specs.Fans.{fan_of, fans_of, port_channel, fan_channels}
-use Rattle.custard_lower.proofs.Pushes.{piece-pushed}
-use Rattle.custard_lower.proofs.ItemReads.{block-read, fans-number, fan-read}
-use Rattle.custard_lower.proofs.GraphPlaces.{channels-before, first_channels, first-channels-number}
-use Rattle.custard_lower.proofs.ChannelSteps.{readers-most, labels-most, outputs-piece, label-of-channel}
+use Rattle.custard_lower.specs.Fans.{fan_channels}
+use Rattle.custard_lower.specs.DraftGraph.{first_output, output_channels, copy_channels, fan_of}
+use Rattle.custard_lower.specs.DraftFans.{fans_of, port_channel}
+use Rattle.custard_lower.proofs.draft.Pushes.{piece-pushed}
+use Rattle.custard_lower.proofs.draft.ItemReads.{block-read, fans-number, fan-read}
+use Rattle.custard_lower.proofs.draft.GraphPlaces.{channels-before, first_channels, first-channels-number}
+use Rattle.custard_lower.proofs.draft.ChannelSteps.{readers-most, labels-most, outputs-piece, label-of-channel}
 use Rattle.custard_lower.proofs.wiring.channels_of.Goals as goal
 
 pub push_outputs-requires-clause-few_labels : goal.push_outputs-requires-clause-few_labels

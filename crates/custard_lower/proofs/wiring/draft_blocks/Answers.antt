@@ -4,12 +4,12 @@ use Rattle.std.proofs.lemmas.List.{length-map}
 use Rattle.graph.specs.declared.graphs.Block.{Block}
 use Rattle.custard_lower.specs.declared.drafts.Made.{Made}
 use Rattle.custard_lower.specs.DraftGraph.{made_at, first_output, reads_at, reads_of, channel_to, draft_block}
-use Rattle.custard_lower.proofs.Pushes.{item-pushed}
-use Rattle.custard_lower.proofs.ItemReads.{block-read}
-use Rattle.custard_lower.proofs.Readers.{block-reads, block-reads-within}
-use Rattle.custard_lower.proofs.GraphPlaces.{first-output-next}
-use Rattle.custard_lower.proofs.ChannelSteps.{labels-most}
-use Rattle.custard_lower.proofs.BlockSteps.{ins-piece}
+use Rattle.custard_lower.proofs.draft.Pushes.{item-pushed}
+use Rattle.custard_lower.proofs.draft.ItemReads.{block-read}
+use Rattle.custard_lower.proofs.draft.Readers.{block-reads, block-reads-within}
+use Rattle.custard_lower.proofs.draft.GraphPlaces.{first-output-next}
+use Rattle.custard_lower.proofs.draft.ChannelSteps.{labels-most}
+use Rattle.custard_lower.proofs.draft.BlockSteps.{ins-piece}
 use Rattle.custard_lower.proofs.wiring.draft_blocks.Goals as goal
 
 pub overflow_add-next_read : goal.overflow_add-next_read

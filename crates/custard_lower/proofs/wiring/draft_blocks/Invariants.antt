@@ -1,7 +1,7 @@
 use Rattle.std.proofs.Common.{◌≡◌, map}
 use Rattle.std.specs.List.{range_with_len}
 use Rattle.custard_lower.specs.DraftGraph.{first_output, reads_at, draft_block}
-use Rattle.custard_lower.proofs.Pieces.{before}
+use Rattle.custard_lower.proofs.draft.Pieces.{before}
 use Rattle.custard_lower.proofs.wiring.draft_blocks.Given as goal
 
 abbrev pub invariant-loop-made : goal.invariant-loop-made

@@ -3,8 +3,8 @@ use Rattle.std.specs.List.{All, range_with_len}
 use Rattle.custard_lower.specs.declared.fans.Read.{Read}
 use Rattle.custard_lower.specs.declared.fans.Fan.{Fan}
 use Rattle.custard_lower.specs.DraftGraph.{reads_of}
-use Rattle.custard_lower.specs.Fans.{fans_of, read_channel}
-use Rattle.custard_lower.proofs.BlockSteps.{read-channels, reads-have-fans, first-copies-fit}
+use Rattle.custard_lower.specs.DraftFans.{fans_of, read_channel}
+use Rattle.custard_lower.proofs.draft.BlockSteps.{read-channels, reads-have-fans, first-copies-fit}
 use Rattle.custard_lower.proofs.wiring.graph_of.Goals as goal
 
 pub channels_to-requires-clause-within : goal.channels_to-requires-clause-within

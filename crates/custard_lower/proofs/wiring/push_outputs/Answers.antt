@@ -8,8 +8,9 @@ use Rattle.graph.specs.declared.graphs.Channel.{Channel}
 use Rattle.custard_lower.specs.declared.fans.Fan.{Fan}
 use Rattle.custard_lower.specs.declared.fans.Read.{Read}
 use Rattle.custard_lower.specs.Drafts.{no_label}
-use Rattle.custard_lower.specs.Fans.{no_fan, fan_at, fan_taker, channel_from, port_channel}
-use Rattle.custard_lower.proofs.Pushes.{item-pushed}
+use Rattle.custard_lower.specs.Fans.{no_fan, fan_taker, channel_from}
+use Rattle.custard_lower.specs.DraftFans.{fan_at, port_channel}
+use Rattle.custard_lower.proofs.draft.Pushes.{item-pushed}
 use Rattle.custard_lower.proofs.wiring.push_outputs.Goals as goal
 
 -- how many channels there are after those of so many ports

@@ -1,6 +1,6 @@
 use Rattle.std.proofs.Common.{◌≡◌, ◌++◌, length, map}
 use Rattle.std.specs.List.{range_with_len}
-use Rattle.custard_lower.specs.Fans.{port_channel}
+use Rattle.custard_lower.specs.DraftFans.{port_channel}
 use Rattle.custard_lower.proofs.wiring.push_outputs.Given as goal
 
 abbrev pub invariant-loop-port : goal.invariant-loop-port

@@ -1,12 +1,12 @@
 use Rattle.std.proofs.Common.{◌≡◌, ◌+◌, drop, length}
-use Rattle.custard_lower.specs.Reductions.{left_loops, free_loops, reduced}
+use Rattle.custard_lower.specs.Reductions.{left_marks, free_marks, reduced}
 use Rattle.custard_lower.proofs.reductions.Levels.reduced.Given as goal
 
 abbrev pub invariant-loop-i : goal.invariant-loop-i
 invariant-loop-i l = record {
   reduced : l.self ≡ reduced l.term (drop l.i l.on_left) l.fn.self;
-  gone : l.gone ≡ free_loops (drop l.i l.on_left);
-  after : l.after ≡ left_loops (drop l.i l.on_left);
+  gone : l.gone ≡ free_marks (drop l.i l.on_left);
+  after : l.after ≡ left_marks (drop l.i l.on_left);
   count : l.gone + l.after + l.i ≡ length l.on_left;
   levels : length l.self.coordinates + l.gone ≡ length l.on_left;
 }

@@ -1,0 +1,10 @@
+pub mod WritersSound
+pub mod WrittenPlaces
+pub mod WrittenLevels
+pub mod WrittenStreams
+pub mod WrittenPruned
+pub mod WrittenEntries
+pub mod WrittenTensor
+pub mod WrittenJoined
+pub mod ResultGraph
+pub mod LowGraph
