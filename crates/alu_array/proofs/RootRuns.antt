@@ -6,7 +6,7 @@ use Rattle.block_core.specs.Runs.{Runs}
 use Rattle.block_core.specs.Stands.{Stands}
 use Rattle.block_core.proofs.Standing.{stands-start}
 use Rattle.alu_array.specs.RootSteps.{root_steps}
-use Rattle.alu_array.specs.declared.origin.RootState.TheVariants.{Reference}
+use Rattle.alu_array.specs.declared.root_block.RootState.TheVariants.{Reference}
 
-pub root_starts : (s : Streams) → Fits RootKind s → Stands (Runs root_steps Reference) RootKind s 0
-root_starts s f = stands-start root_steps Reference RootKind s f (refl, (refl, refl))
+pub root-starts : (s : Streams) → Fits RootKind s → Stands (Runs root_steps Reference) RootKind s 0
+root-starts s f = stands-start root_steps Reference RootKind s f (refl, (refl, refl))

@@ -20,15 +20,15 @@ change_gives Wanting t = Giving t
 change_gives (Giving u) t = Giving u
 change_gives Ended t = Ended
 
-abbrev pub after_token : Token → ChangeState
-after_token (Item x) = Wanting
-after_token Empty = Wanting
-after_token (Stop n) = Wanting
-after_token Done = Ended
+abbrev pub change_after : Token → ChangeState
+change_after (Item x) = Wanting
+change_after Empty = Wanting
+change_after (Stop n) = Wanting
+change_after Done = Ended
 
 abbrev pub change_put : ChangeState → ChangeState
 change_put Wanting = Wanting
-change_put (Giving t) = after_token t
+change_put (Giving t) = change_after t
 change_put Ended = Ended
 
 -- each number x becomes f x

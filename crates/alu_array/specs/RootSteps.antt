@@ -4,8 +4,8 @@ use Rattle.stream_tokens.specs.declared.Token.TheVariants.{Item, Done}
 use Rattle.block_core.specs.declared.Wish.{Wish}
 use Rattle.block_core.specs.declared.Wish.TheVariants.{Put, Finished}
 use Rattle.block_core.specs.Runs.{Steps}
-use Rattle.alu_array.specs.declared.origin.RootState.{RootState}
-use Rattle.alu_array.specs.declared.origin.RootState.TheVariants.{Reference, Ending, Ended}
+use Rattle.alu_array.specs.declared.root_block.RootState.{RootState}
+use Rattle.alu_array.specs.declared.root_block.RootState.TheVariants.{Reference, Ending, Ended}
 
 abbrev pub root_wants : RootState → Wish
 root_wants Reference = Put 0 (Item 0)

@@ -4,7 +4,8 @@ use Rattle.std.proofs.lemmas.List.{get_or_read_under}
 use Rattle.std.proofs.lemmas.Option.{slice_get_within}
 use Rattle.sam_model.specs.Children.{Ranked}
 use Rattle.block_core.specs.Ports.{Streams}
-use Rattle.block_core.specs.Kind.{Kind, Fits}
+use Rattle.block_core.specs.Kind.{Kind}
+use Rattle.block_core.specs.Stands.{StandsAtStart}
 use Rattle.graph.specs.declared.graphs.Block.{Block}
 use Rattle.graph.specs.declared.graphs.Graph.{Graph}
 use Rattle.graph.specs.Meaning.{meaning}
@@ -14,8 +15,8 @@ use Rattle.graph.specs.Standing.{StandAt, start_position}
 
 -- a block of this kind, at its start on whole inputs that fit
 pub record IsNew {B : Type 0} (kind : B → Kind) (stands : B → Streams → ℕ → Type 0) (k : Kind) (x : B) : Type 0 where
-  pub same_kind : kind x ≡ k
-  pub starts : (s : Streams) → Fits k s → stands x s 0
+  pub same-kind : kind x ≡ k
+  pub starts : StandsAtStart (stands x) k
 
 -- the blocks for the first n of a graph
 pub record Made {B : Type 0} (kind : B → Kind) (stands : B → Streams → ℕ → Type 0) (storages : List Ranked) (g : Graph) (n : ℕ)
@@ -24,30 +25,30 @@ pub record Made {B : Type 0} (kind : B → Kind) (stands : B → Streams → ℕ
   pub each : (b : ℕ) (x : B) → slice_get blocks b ≡ Some x → IsNew kind stands (meaning storages (block g b).kind) x
 
 -- the block of a graph that was read by its number
-pub block_is : (g : Graph) (blocks : List Block) (n : ℕ) (x : Block) → blocks ≡ g.blocks → n < length blocks → x ≡ get_or blocks n x → x ≡ block g n
-block_is g blocks n x e inside is = rw (sym e) (get_or_read_under blocks n (length blocks) x no_block is inside refl)
+pub block-is : (g : Graph) (blocks : List Block) (n : ℕ) (x : Block) → blocks ≡ g.blocks → n < length blocks → x ≡ get_or blocks n x → x ≡ block g n
+block-is g blocks n x e inside is = rw (sym e) (get_or_read_under blocks n (length blocks) x no_block is inside refl)
 
 module _ {B : Type 0} (kind : B → Kind) (stands : B → Streams → ℕ → Type 0) (storages : List Ranked) (g : Graph) where
   -- an element of a longer list was there before, or is the new one
-  before_or_last : (blocks : List B) (y : B) (b : ℕ) (x : B) → slice_get (blocks ++ y ∷ []) b ≡ Some x
+  before-or-last : (blocks : List B) (y : B) (b : ℕ) (x : B) → slice_get (blocks ++ y ∷ []) b ≡ Some x
       → (slice_get blocks b ≡ Some x) ⊎ ((b ≡ length blocks) × (y ≡ x))
-  before_or_last [] y zero x e = inr (refl, cc)
-  before_or_last [] y (suc b) x e = absurd (cc)
-  before_or_last (z ∷ zs) y zero x e = inl e
-  before_or_last (z ∷ zs) y (suc b) x e = elim (before_or_last zs y b x e) [ inl h ↦ inl h | inr h ↦ inr (ap (λ n. suc n) h.0, h.1) ]
+  before-or-last [] y zero x e = inr (refl, cc)
+  before-or-last [] y (suc b) x e = absurd (cc)
+  before-or-last (z ∷ zs) y zero x e = inl e
+  before-or-last (z ∷ zs) y (suc b) x e = elim (before-or-last zs y b x e) [ inl h ↦ inl h | inr h ↦ inr (ap (λ n. suc n) h.0, h.1) ]
 
-  pub made_more : (n : ℕ) (blocks blocks' : List B) (y : B) → Made kind stands storages g n blocks
+  pub made-more : (n : ℕ) (blocks blocks' : List B) (y : B) → Made kind stands storages g n blocks
       → IsNew kind stands (meaning storages (block g n).kind) y → blocks' ≡ blocks ++ y ∷ []
       → Made kind stands storages g (n + 1) blocks'
-  made_more n blocks blocks' y m new e = rw e (record { number = rw (length-append, m.number) refl; each = λ b x at. either b x (before_or_last blocks y b x at) })
+  made-more n blocks blocks' y m new e = rw e (record { number = rw (length-append, m.number) refl; each = λ b x at. either b x (before-or-last blocks y b x at) })
     where
       either : (b : ℕ) (x : B) → (slice_get blocks b ≡ Some x) ⊎ ((b ≡ length blocks) × (y ≡ x)) → IsNew kind stands (meaning storages (block g b).kind) x
       either b x (inl h) = m.each b x h
       either b x (inr h) = rw (h.0, m.number, sym h.1) new
 
-  pub made_all : (n : ℕ) (blocks : List B) → n ≡ length g.blocks → Made kind stands storages g n blocks → Consistent storages g
+  pub made-all : (n : ℕ) (blocks : List B) → n ≡ length g.blocks → Made kind stands storages g n blocks → Consistent storages g
       → StandAt kind stands storages g start_position blocks
-  made_all n blocks e m fits = record {
+  made-all n blocks e m fits = record {
     number = m.number ∙ e;
     kinds = λ b x at. (m.each b x at).same_kind;
     placed = λ b x at. (m.each b x at).starts (whole_inputs storages g b)

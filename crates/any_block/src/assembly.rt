@@ -1,8 +1,7 @@
 //! The blocks of a graph.
 
 ghost use Rattle.std.specs.Prelude.{◌≡◌, ◌≤◌, ℕ, length, slice_get, Some, IfOk};
-ghost use Rattle.block_core.specs.Ports.{Streams};
-ghost use Rattle.block_core.specs.Kind.{Fits};
+ghost use Rattle.block_core.specs.Stands.{StandsAtStart};
 ghost use Rattle.graph.specs.Meaning.{meaning};
 ghost use Rattle.graph.specs.Wiring.{block};
 ghost use Rattle.graph.specs.WholeStreams.{Consistent};
@@ -13,7 +12,7 @@ ghost use Rattle.graph.specs.Assembly.{KindInRange, KindsInRange, payloads_of, F
 use crate::blocks::AnyBlock;
 use alu_array::{Alu, Array, Constant, Op, Root};
 use block_core::BlockStep;
-use copy_blocks::{Broadcast, Drain, Repeater};
+use copy_blocks::{Cast, Drain, Repeater};
 use graph::{Graph, Kind};
 use level_writer::{LevelWriter, ValueWriter};
 use levels::Storage;
@@ -33,7 +32,7 @@ fn new_block<'a>(
     requires in_range { KindInRange storages.now kind }
     requires few { payloads_of kind ≤ 8 }
     ensures same_kind { IfOk result (λ x. ⟦<AnyBlock<'a> as BlockStep>⟧.kind x ≡ meaning storages.now kind) }
-    ensures starts { IfOk result (λ x. (s : Streams) → Fits (meaning storages.now kind) s → ⟦<AnyBlock<'a> as BlockStep>⟧.stands x s 0) }
+    ensures starts { IfOk result (λ x. StandsAtStart (⟦<AnyBlock<'a> as BlockStep>⟧.stands x) (meaning storages.now kind)) }
 {
     Ok(match kind {
         Kind::Root => AnyBlock::Root(Root::new()),
@@ -42,7 +41,7 @@ fn new_block<'a>(
             level,
         )),
         Kind::Repeat => AnyBlock::Repeat(Repeater::new()),
-        Kind::Cast { outs } => AnyBlock::Cast(Broadcast::new(outs)),
+        Kind::Cast { outs } => AnyBlock::Cast(Cast::new(outs)),
         Kind::Drain => AnyBlock::Drain(Drain::new()),
         Kind::Intersect { left, right } => AnyBlock::Intersect(Intersecter::new(left, right)),
         Kind::Union { left, right } => AnyBlock::Union(Unioner::new(left, right)),
@@ -62,8 +61,8 @@ fn new_block<'a>(
     })
 }
 
-/// One block for each block of a graph, before its first move. A scanner or an array reads one of the storages, by its
-/// tensor's number.
+/// One block for each block of a graph, before its first move: for all whole inputs that fit its kind, whatever the graph
+/// gives it. A scanner or an array reads one of the storages, by its tensor's number.
 pub fn assemble<'a>(
     alloc: Global,
     g: &Graph,
@@ -73,6 +72,10 @@ pub fn assemble<'a>(
     requires few { FewPayloads g.now }
     ensures number { IfOk result (λ blocks. length blocks.items ≡ length g.now.blocks) }
     ensures kinds { IfOk result (λ blocks. (b : ℕ) (x : AnyBlock) → slice_get blocks.items b ≡ Some x → ⟦<AnyBlock<'a> as BlockStep>⟧.kind x ≡ meaning storages.now (block g.now b).kind) }
+    ensures any_inputs {
+        IfOk result (λ blocks. (b : ℕ) (x : AnyBlock) → slice_get blocks.items b ≡ Some x
+            → StandsAtStart (⟦<AnyBlock<'a> as BlockStep>⟧.stands x) (meaning storages.now (block g.now b).kind))
+    }
     ensures starts { IfOk result (λ blocks. Consistent storages.now g.now → StandAt ⟦<AnyBlock<'a> as BlockStep>⟧.kind ⟦<AnyBlock<'a> as BlockStep>⟧.stands storages.now g.now start_position blocks.items) }
 {
     let mut blocks = Vec::with_capacity(alloc, g.blocks.len())?;

@@ -11,7 +11,7 @@ ghost use Rattle.copy_blocks.specs.DrainSteps.{drain_steps};
 ghost use Rattle.copy_blocks.specs.RepeatSteps.{repeat_steps};
 ghost use Rattle.level_writer.specs.WriterSteps.{writer_steps};
 ghost use Rattle.merge_blocks.specs.MergeSteps.{merge_steps};
-ghost use Rattle.scalar_reducer.specs.SumSteps.{sum_steps};
+ghost use Rattle.scalar_reducer.specs.ScalarSteps.{scalar_steps};
 ghost use Rattle.scanner.specs.ScanSteps.{scan_steps};
 ghost use Rattle.shape_blocks.specs.DropFiberSteps.{drop_fiber_steps};
 ghost use Rattle.shape_blocks.specs.DropValueSteps.{drop_value_steps};
@@ -21,8 +21,8 @@ ghost use Rattle.space_reducer.specs.VectorSteps.{vector_steps};
 ghost use Rattle.any_block.specs.declared.blocks.AnyBlock.TheVariants.{Root, Scan, Repeat, Cast, Drain, Intersect, Union, Array, Alu, Const, SumScalar, SumVector, SumMatrix, DropValue, DropFiber, Fill, WriteLevel, WriteValue};
 
 use alu_array::{Alu, Array, Constant, Root};
-use block_core::{BlockStep, Wish};
-use copy_blocks::{Broadcast, Drain, Repeater};
+use block_core::{BlockStep, Ports, Wish};
+use copy_blocks::{Cast, Drain, Repeater};
 use level_writer::{LevelWriter, ValueWriter};
 use merge_blocks::{Intersecter, Unioner};
 use scalar_reducer::ScalarReducer;
@@ -38,7 +38,7 @@ pub enum AnyBlock<'a> {
     Root(Root),
     Scan(Scanner<'a>),
     Repeat(Repeater),
-    Cast(Broadcast),
+    Cast(Cast),
     Drain(Drain),
     Intersect(Intersecter),
     Union(Unioner),
@@ -60,7 +60,7 @@ impl<'a> BlockStep for AnyBlock<'a> {
       | Root b ↦ ⟦<Root as BlockStep>⟧.kind b
       | Scan b ↦ ⟦<Scanner<'a> as BlockStep>⟧.kind b
       | Repeat b ↦ ⟦<Repeater as BlockStep>⟧.kind b
-      | Cast b ↦ ⟦<Broadcast as BlockStep>⟧.kind b
+      | Cast b ↦ ⟦<Cast as BlockStep>⟧.kind b
       | Drain b ↦ ⟦<Drain as BlockStep>⟧.kind b
       | Intersect b ↦ ⟦<Intersecter as BlockStep>⟧.kind b
       | Union b ↦ ⟦<Unioner as BlockStep>⟧.kind b
@@ -81,7 +81,7 @@ impl<'a> BlockStep for AnyBlock<'a> {
       | Root b ↦ ⟦<Root as BlockStep>⟧.may_refuse b
       | Scan b ↦ ⟦<Scanner<'a> as BlockStep>⟧.may_refuse b
       | Repeat b ↦ ⟦<Repeater as BlockStep>⟧.may_refuse b
-      | Cast b ↦ ⟦<Broadcast as BlockStep>⟧.may_refuse b
+      | Cast b ↦ ⟦<Cast as BlockStep>⟧.may_refuse b
       | Drain b ↦ ⟦<Drain as BlockStep>⟧.may_refuse b
       | Intersect b ↦ ⟦<Intersecter as BlockStep>⟧.may_refuse b
       | Union b ↦ ⟦<Unioner as BlockStep>⟧.may_refuse b
@@ -102,7 +102,7 @@ impl<'a> BlockStep for AnyBlock<'a> {
       | Root b ↦ ⟦<Root as BlockStep>⟧.stands b
       | Scan b ↦ ⟦<Scanner<'a> as BlockStep>⟧.stands b
       | Repeat b ↦ ⟦<Repeater as BlockStep>⟧.stands b
-      | Cast b ↦ ⟦<Broadcast as BlockStep>⟧.stands b
+      | Cast b ↦ ⟦<Cast as BlockStep>⟧.stands b
       | Drain b ↦ ⟦<Drain as BlockStep>⟧.stands b
       | Intersect b ↦ ⟦<Intersecter as BlockStep>⟧.stands b
       | Union b ↦ ⟦<Unioner as BlockStep>⟧.stands b
@@ -237,6 +237,30 @@ impl<'a> BlockStep for AnyBlock<'a> {
         }
     }
 
+    // The kind is told apart once for all moves of a burst.
+    fn burst<P: Ports>(&mut self, ports: &mut P, most: u32) -> Result<bool, AllocError> {
+        match self {
+            AnyBlock::Root(block) => block.burst(ports, most),
+            AnyBlock::Scan(block) => block.burst(ports, most),
+            AnyBlock::Repeat(block) => block.burst(ports, most),
+            AnyBlock::Cast(block) => block.burst(ports, most),
+            AnyBlock::Drain(block) => block.burst(ports, most),
+            AnyBlock::Intersect(block) => block.burst(ports, most),
+            AnyBlock::Union(block) => block.burst(ports, most),
+            AnyBlock::Array(block) => block.burst(ports, most),
+            AnyBlock::Alu(block) => block.burst(ports, most),
+            AnyBlock::Const(block) => block.burst(ports, most),
+            AnyBlock::SumScalar(block) => block.burst(ports, most),
+            AnyBlock::SumVector(block) => block.burst(ports, most),
+            AnyBlock::SumMatrix(block) => block.burst(ports, most),
+            AnyBlock::DropValue(block) => block.burst(ports, most),
+            AnyBlock::DropFiber(block) => block.burst(ports, most),
+            AnyBlock::Fill(block) => block.burst(ports, most),
+            AnyBlock::WriteLevel(block) => block.burst(ports, most),
+            AnyBlock::WriteValue(block) => block.burst(ports, most),
+        }
+    }
+
     ghost stands_fits = { elim [
       | Root b ↦ λ s n h. h.fits
       | Scan b ↦ λ s n h. h.fits
@@ -290,7 +314,7 @@ impl<'a> BlockStep for AnyBlock<'a> {
       | Array b ↦ λ s r n h k a. same-wish (change_steps _) _ n _ _ h.rest k.rest a
       | Alu b ↦ λ s r n h k a. same-wish (alu_steps _) _ n _ _ h.rest k.rest a
       | Const b ↦ λ s r n h k a. same-wish (change_steps _) _ n _ _ h.rest k.rest a
-      | SumScalar b ↦ λ s r n h k a. same-wish sum_steps _ n _ _ h.rest k.rest a
+      | SumScalar b ↦ λ s r n h k a. same-wish scalar_steps _ n _ _ h.rest k.rest a
       | SumVector b ↦ λ s r n h k a. same-wish vector_steps _ n _ _ h.rest k.rest a
       | SumMatrix b ↦ λ s r n h k a. same-wish matrix_steps _ n _ _ h.rest k.rest a
       | DropValue b ↦ λ s r n h k a. same-wish drop_value_steps _ n _ _ h.rest k.rest a

@@ -8,6 +8,3 @@ mod gathering;
 pub use assembly::assemble;
 pub use blocks::AnyBlock;
 pub use gathering::gather;
-
-#[cfg(test)]
-mod tests;

@@ -1,13 +1,13 @@
 pub mod Standing
 pub mod Unique
 mod Passing
-mod Rows
+pub mod Rows
 mod After
 mod PlainFlows
 mod RepeatFlows
 mod SpaceFlows
 mod BeneathFlows
-mod InOrder
+pub mod InOrder
 mod Either
 mod MergeFlows
 mod FillFlows
@@ -26,5 +26,6 @@ mod WorkedArithmetic
 mod WorkedReducers
 mod WorkedShapes
 mod WorkedWriters
-mod WorkedFits
+pub mod WorkedFits
+pub mod Sums
 pub mod Pouring

@@ -13,99 +13,99 @@ root : Works (RootKind)
 root = (refl, refl, refl)
 
 -- scan of a level below the root
-scan_outer : Works (ScanKind (((0, 0) ∷ (1, 1) ∷ (3, 2) ∷ []) ∷ []))
+scan-outer : Works (ScanKind (((0, 0) ∷ (1, 1) ∷ (3, 2) ∷ []) ∷ []))
     ((Item 0 ∷ Done ∷ []) ∷ [])
     ((Item 0 ∷ Item 1 ∷ Item 3 ∷ Stop 0 ∷ Done ∷ []) ∷ (Item 0 ∷ Item 1 ∷ Item 2 ∷ Stop 0 ∷ Done ∷ []) ∷ [])
     (Taking 0 (Item 0) ∷ Putting 0 (Item 0) ∷ Putting 1 (Item 0) ∷ Putting 0 (Item 1) ∷ Putting 1 (Item 1) ∷ Putting 0 (Item 3) ∷ Putting 1 (Item 2) ∷ Taking 0 Done ∷ Putting 0 (Stop 0) ∷ Putting 1 (Stop 0) ∷ Putting 0 Done ∷ Putting 1 Done ∷ [])
-scan_outer = (refl, refl, refl)
+scan-outer = (refl, refl, refl)
 
 -- scan of a level below another
-scan_inner : Works (ScanKind (((1, 0) ∷ []) ∷ ((0, 1) ∷ (2, 2) ∷ []) ∷ ((1, 3) ∷ (3, 4) ∷ []) ∷ []))
+scan-inner : Works (ScanKind (((1, 0) ∷ []) ∷ ((0, 1) ∷ (2, 2) ∷ []) ∷ ((1, 3) ∷ (3, 4) ∷ []) ∷ []))
     ((Item 0 ∷ Item 1 ∷ Item 2 ∷ Stop 0 ∷ Done ∷ []) ∷ [])
     ((Item 1 ∷ Stop 0 ∷ Item 0 ∷ Item 2 ∷ Stop 0 ∷ Item 1 ∷ Item 3 ∷ Stop 1 ∷ Done ∷ []) ∷ (Item 0 ∷ Stop 0 ∷ Item 1 ∷ Item 2 ∷ Stop 0 ∷ Item 3 ∷ Item 4 ∷ Stop 1 ∷ Done ∷ []) ∷ [])
     (Taking 0 (Item 0) ∷ Putting 0 (Item 1) ∷ Putting 1 (Item 0) ∷ Taking 0 (Item 1) ∷ Putting 0 (Stop 0) ∷ Putting 1 (Stop 0) ∷ Putting 0 (Item 0) ∷ Putting 1 (Item 1) ∷ Putting 0 (Item 2) ∷ Putting 1 (Item 2) ∷ Taking 0 (Item 2) ∷ Putting 0 (Stop 0) ∷ Putting 1 (Stop 0) ∷ Putting 0 (Item 1) ∷ Putting 1 (Item 3) ∷ Putting 0 (Item 3) ∷ Putting 1 (Item 4) ∷ Taking 0 (Stop 0) ∷ Putting 0 (Stop 1) ∷ Putting 1 (Stop 1) ∷ Taking 0 Done ∷ Putting 0 Done ∷ Putting 1 Done ∷ [])
-scan_inner = (refl, refl, refl)
+scan-inner = (refl, refl, refl)
 
 -- a reference that is empty has nothing beneath it
-scan_empty_reference : Works (ScanKind (((1, 0) ∷ []) ∷ ((0, 1) ∷ (2, 2) ∷ []) ∷ ((1, 3) ∷ (3, 4) ∷ []) ∷ []))
+scan-empty-reference : Works (ScanKind (((1, 0) ∷ []) ∷ ((0, 1) ∷ (2, 2) ∷ []) ∷ ((1, 3) ∷ (3, 4) ∷ []) ∷ []))
     ((Empty ∷ Stop 0 ∷ Done ∷ []) ∷ [])
     ((Stop 1 ∷ Done ∷ []) ∷ (Stop 1 ∷ Done ∷ []) ∷ [])
     (Taking 0 Empty ∷ Taking 0 (Stop 0) ∷ Putting 0 (Stop 1) ∷ Putting 1 (Stop 1) ∷ Taking 0 Done ∷ Putting 0 Done ∷ Putting 1 Done ∷ [])
-scan_empty_reference = (refl, refl, refl)
+scan-empty-reference = (refl, refl, refl)
 
 -- no reference at all
-scan_empty_fiber : Works (ScanKind (((1, 0) ∷ []) ∷ ((0, 1) ∷ (2, 2) ∷ []) ∷ ((1, 3) ∷ (3, 4) ∷ []) ∷ []))
+scan-empty-fiber : Works (ScanKind (((1, 0) ∷ []) ∷ ((0, 1) ∷ (2, 2) ∷ []) ∷ ((1, 3) ∷ (3, 4) ∷ []) ∷ []))
     ((Stop 0 ∷ Done ∷ []) ∷ [])
     ((Stop 1 ∷ Done ∷ []) ∷ (Stop 1 ∷ Done ∷ []) ∷ [])
     (Taking 0 (Stop 0) ∷ Putting 0 (Stop 1) ∷ Putting 1 (Stop 1) ∷ Taking 0 Done ∷ Putting 0 Done ∷ Putting 1 Done ∷ [])
-scan_empty_fiber = (refl, refl, refl)
+scan-empty-fiber = (refl, refl, refl)
 
 -- an empty reference, a reference without children, and nested stops
-scan_deep : Works (ScanKind (((5, 9) ∷ []) ∷ ([]) ∷ ((1, 3) ∷ (3, 4) ∷ []) ∷ []))
+scan-deep : Works (ScanKind (((5, 9) ∷ []) ∷ ([]) ∷ ((1, 3) ∷ (3, 4) ∷ []) ∷ []))
     ((Item 0 ∷ Empty ∷ Stop 0 ∷ Item 1 ∷ Item 2 ∷ Stop 1 ∷ Stop 0 ∷ Item 0 ∷ Stop 2 ∷ Done ∷ []) ∷ [])
     ((Item 5 ∷ Stop 0 ∷ Stop 1 ∷ Stop 0 ∷ Item 1 ∷ Item 3 ∷ Stop 2 ∷ Stop 1 ∷ Item 5 ∷ Stop 3 ∷ Done ∷ []) ∷ (Item 9 ∷ Stop 0 ∷ Stop 1 ∷ Stop 0 ∷ Item 3 ∷ Item 4 ∷ Stop 2 ∷ Stop 1 ∷ Item 9 ∷ Stop 3 ∷ Done ∷ []) ∷ [])
     (Taking 0 (Item 0) ∷ Putting 0 (Item 5) ∷ Putting 1 (Item 9) ∷ Taking 0 Empty ∷ Putting 0 (Stop 0) ∷ Putting 1 (Stop 0) ∷ Taking 0 (Stop 0) ∷ Putting 0 (Stop 1) ∷ Putting 1 (Stop 1) ∷ Taking 0 (Item 1) ∷ Taking 0 (Item 2) ∷ Putting 0 (Stop 0) ∷ Putting 1 (Stop 0) ∷ Putting 0 (Item 1) ∷ Putting 1 (Item 3) ∷ Putting 0 (Item 3) ∷ Putting 1 (Item 4) ∷ Taking 0 (Stop 1) ∷ Putting 0 (Stop 2) ∷ Putting 1 (Stop 2) ∷ Taking 0 (Stop 0) ∷ Putting 0 (Stop 1) ∷ Putting 1 (Stop 1) ∷ Taking 0 (Item 0) ∷ Putting 0 (Item 5) ∷ Putting 1 (Item 9) ∷ Taking 0 (Stop 2) ∷ Putting 0 (Stop 3) ∷ Putting 1 (Stop 3) ∷ Taking 0 Done ∷ Putting 0 Done ∷ Putting 1 Done ∷ [])
-scan_deep = (refl, refl, refl)
+scan-deep = (refl, refl, refl)
 
 -- repeat
-repeat_row : Works (RepeatKind)
+repeat-row : Works (RepeatKind)
     ((Item 0 ∷ Item 2 ∷ Stop 0 ∷ Item 1 ∷ Stop 1 ∷ Done ∷ []) ∷ (Item 5 ∷ Empty ∷ Stop 0 ∷ Done ∷ []) ∷ [])
     ((Item 5 ∷ Item 5 ∷ Stop 0 ∷ Empty ∷ Stop 1 ∷ Done ∷ []) ∷ [])
     (Taking 1 (Item 5) ∷ Taking 0 (Item 0) ∷ Putting 0 (Item 5) ∷ Taking 0 (Item 2) ∷ Putting 0 (Item 5) ∷ Taking 0 (Stop 0) ∷ Putting 0 (Stop 0) ∷ Taking 1 Empty ∷ Taking 0 (Item 1) ∷ Putting 0 Empty ∷ Taking 0 (Stop 1) ∷ Putting 0 (Stop 1) ∷ Taking 1 (Stop 0) ∷ Taking 1 Done ∷ Taking 0 Done ∷ Putting 0 Done ∷ [])
-repeat_row = (refl, refl, refl)
+repeat-row = (refl, refl, refl)
 
 -- repeat of a stream of depth 0
-repeat_root : Works (RepeatKind)
+repeat-root : Works (RepeatKind)
     ((Item 0 ∷ Item 2 ∷ Stop 0 ∷ Done ∷ []) ∷ (Item 7 ∷ Done ∷ []) ∷ [])
     ((Item 7 ∷ Item 7 ∷ Stop 0 ∷ Done ∷ []) ∷ [])
     (Taking 1 (Item 7) ∷ Taking 0 (Item 0) ∷ Putting 0 (Item 7) ∷ Taking 0 (Item 2) ∷ Putting 0 (Item 7) ∷ Taking 0 (Stop 0) ∷ Putting 0 (Stop 0) ∷ Taking 1 Done ∷ Taking 0 Done ∷ Putting 0 Done ∷ [])
-repeat_root = (refl, refl, refl)
+repeat-root = (refl, refl, refl)
 
 -- nothing to repeat
-repeat_empty : Works (RepeatKind)
+repeat-empty : Works (RepeatKind)
     ((Stop 1 ∷ Done ∷ []) ∷ (Stop 0 ∷ Done ∷ []) ∷ [])
     ((Stop 1 ∷ Done ∷ []) ∷ [])
     (Taking 1 (Stop 0) ∷ Taking 0 (Stop 1) ∷ Putting 0 (Stop 1) ∷ Taking 1 Done ∷ Taking 0 Done ∷ Putting 0 Done ∷ [])
-repeat_empty = (refl, refl, refl)
+repeat-empty = (refl, refl, refl)
 
 -- empty fibers in both streams
-repeat_deep : Works (RepeatKind)
+repeat-deep : Works (RepeatKind)
     ((Stop 0 ∷ Item 1 ∷ Stop 1 ∷ Stop 1 ∷ Item 2 ∷ Stop 0 ∷ Stop 2 ∷ Done ∷ []) ∷ (Item 4 ∷ Item 5 ∷ Stop 0 ∷ Stop 0 ∷ Empty ∷ Item 6 ∷ Stop 1 ∷ Done ∷ []) ∷ [])
     ((Stop 0 ∷ Item 5 ∷ Stop 1 ∷ Stop 1 ∷ Empty ∷ Stop 0 ∷ Stop 2 ∷ Done ∷ []) ∷ [])
     (Taking 1 (Item 4) ∷ Taking 0 (Stop 0) ∷ Putting 0 (Stop 0) ∷ Taking 1 (Item 5) ∷ Taking 0 (Item 1) ∷ Putting 0 (Item 5) ∷ Taking 0 (Stop 1) ∷ Putting 0 (Stop 1) ∷ Taking 1 (Stop 0) ∷ Taking 1 (Stop 0) ∷ Taking 0 (Stop 1) ∷ Putting 0 (Stop 1) ∷ Taking 1 Empty ∷ Taking 0 (Item 2) ∷ Putting 0 Empty ∷ Taking 0 (Stop 0) ∷ Putting 0 (Stop 0) ∷ Taking 1 (Item 6) ∷ Taking 0 (Stop 2) ∷ Putting 0 (Stop 2) ∷ Taking 1 (Stop 1) ∷ Taking 1 Done ∷ Taking 0 Done ∷ Putting 0 Done ∷ [])
-repeat_deep = (refl, refl, refl)
+repeat-deep = (refl, refl, refl)
 
 -- cast to three
-cast_row : Works (CastKind 3)
+cast-row : Works (CastKind 3)
     ((Item 4 ∷ Empty ∷ Stop 0 ∷ Stop 1 ∷ Done ∷ []) ∷ [])
     ((Item 4 ∷ Empty ∷ Stop 0 ∷ Stop 1 ∷ Done ∷ []) ∷ (Item 4 ∷ Empty ∷ Stop 0 ∷ Stop 1 ∷ Done ∷ []) ∷ (Item 4 ∷ Empty ∷ Stop 0 ∷ Stop 1 ∷ Done ∷ []) ∷ [])
     (Taking 0 (Item 4) ∷ Putting 0 (Item 4) ∷ Putting 1 (Item 4) ∷ Putting 2 (Item 4) ∷ Taking 0 Empty ∷ Putting 0 Empty ∷ Putting 1 Empty ∷ Putting 2 Empty ∷ Taking 0 (Stop 0) ∷ Putting 0 (Stop 0) ∷ Putting 1 (Stop 0) ∷ Putting 2 (Stop 0) ∷ Taking 0 (Stop 1) ∷ Putting 0 (Stop 1) ∷ Putting 1 (Stop 1) ∷ Putting 2 (Stop 1) ∷ Taking 0 Done ∷ Putting 0 Done ∷ Putting 1 Done ∷ Putting 2 Done ∷ [])
-cast_row = (refl, refl, refl)
+cast-row = (refl, refl, refl)
 
 -- cast to none
-cast_none : Works (CastKind 0)
+cast-none : Works (CastKind 0)
     ((Item 4 ∷ Done ∷ []) ∷ [])
     ([])
     (Taking 0 (Item 4) ∷ Taking 0 Done ∷ [])
-cast_none = (refl, refl, refl)
+cast-none = (refl, refl, refl)
 
 -- drain
-drain_row : Works (DrainKind)
+drain-row : Works (DrainKind)
     ((Item 4 ∷ Empty ∷ Stop 0 ∷ Stop 1 ∷ Done ∷ []) ∷ [])
     ([])
     (Taking 0 (Item 4) ∷ Taking 0 Empty ∷ Taking 0 (Stop 0) ∷ Taking 0 (Stop 1) ∷ Taking 0 Done ∷ [])
-drain_row = (refl, refl, refl)
+drain-row = (refl, refl, refl)
 
 -- array
-array_row : Works (ArrayKind (7 ∷ 0 ∷ 9 ∷ []))
+array-row : Works (ArrayKind (7 ∷ 0 ∷ 9 ∷ []))
     ((Item 2 ∷ Empty ∷ Stop 0 ∷ Item 1 ∷ Stop 1 ∷ Done ∷ []) ∷ [])
     ((Item 9 ∷ Empty ∷ Stop 0 ∷ Item 0 ∷ Stop 1 ∷ Done ∷ []) ∷ [])
     (Taking 0 (Item 2) ∷ Putting 0 (Item 9) ∷ Taking 0 Empty ∷ Putting 0 Empty ∷ Taking 0 (Stop 0) ∷ Putting 0 (Stop 0) ∷ Taking 0 (Item 1) ∷ Putting 0 (Item 0) ∷ Taking 0 (Stop 1) ∷ Putting 0 (Stop 1) ∷ Taking 0 Done ∷ Putting 0 Done ∷ [])
-array_row = (refl, refl, refl)
+array-row = (refl, refl, refl)
 
 -- const
-const_row : Works (ConstKind 6)
+const-row : Works (ConstKind 6)
     ((Item 2 ∷ Empty ∷ Stop 0 ∷ Item 1 ∷ Stop 1 ∷ Done ∷ []) ∷ [])
     ((Item 6 ∷ Empty ∷ Stop 0 ∷ Item 6 ∷ Stop 1 ∷ Done ∷ []) ∷ [])
     (Taking 0 (Item 2) ∷ Putting 0 (Item 6) ∷ Taking 0 Empty ∷ Putting 0 Empty ∷ Taking 0 (Stop 0) ∷ Putting 0 (Stop 0) ∷ Taking 0 (Item 1) ∷ Putting 0 (Item 6) ∷ Taking 0 (Stop 1) ∷ Putting 0 (Stop 1) ∷ Taking 0 Done ∷ Putting 0 Done ∷ [])
-const_row = (refl, refl, refl)
+const-row = (refl, refl, refl)

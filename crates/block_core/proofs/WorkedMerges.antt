@@ -6,50 +6,50 @@ use Rattle.block_core.specs.Kind.{IntersectKind, UnionKind}
 use Rattle.block_core.proofs.Works.{Works}
 
 -- intersect
-intersect_row : Works (IntersectKind 1 1)
+intersect-row : Works (IntersectKind 1 1)
     ((Item 0 ∷ Item 2 ∷ Stop 0 ∷ Done ∷ []) ∷ (Item 0 ∷ Item 1 ∷ Stop 0 ∷ Done ∷ []) ∷ (Item 2 ∷ Item 3 ∷ Stop 0 ∷ Done ∷ []) ∷ (Item 0 ∷ Item 1 ∷ Stop 0 ∷ Done ∷ []) ∷ [])
     ((Item 2 ∷ Stop 0 ∷ Done ∷ []) ∷ (Item 1 ∷ Stop 0 ∷ Done ∷ []) ∷ (Item 0 ∷ Stop 0 ∷ Done ∷ []) ∷ [])
     (Taking 0 (Item 0) ∷ Taking 1 (Item 0) ∷ Taking 2 (Item 2) ∷ Taking 3 (Item 0) ∷ Taking 0 (Item 2) ∷ Taking 1 (Item 1) ∷ Putting 0 (Item 2) ∷ Putting 1 (Item 1) ∷ Putting 2 (Item 0) ∷ Taking 0 (Stop 0) ∷ Taking 1 (Stop 0) ∷ Taking 2 (Item 3) ∷ Taking 3 (Item 1) ∷ Taking 2 (Stop 0) ∷ Taking 3 (Stop 0) ∷ Putting 0 (Stop 0) ∷ Putting 1 (Stop 0) ∷ Putting 2 (Stop 0) ∷ Taking 0 Done ∷ Taking 1 Done ∷ Taking 2 Done ∷ Taking 3 Done ∷ Putting 0 Done ∷ Putting 1 Done ∷ Putting 2 Done ∷ [])
-intersect_row = (refl, refl, refl)
+intersect-row = (refl, refl, refl)
 
 -- union
-union_row : Works (UnionKind 1 1)
+union-row : Works (UnionKind 1 1)
     ((Item 0 ∷ Item 2 ∷ Stop 0 ∷ Done ∷ []) ∷ (Item 0 ∷ Item 1 ∷ Stop 0 ∷ Done ∷ []) ∷ (Item 2 ∷ Item 3 ∷ Stop 0 ∷ Done ∷ []) ∷ (Item 0 ∷ Item 1 ∷ Stop 0 ∷ Done ∷ []) ∷ [])
     ((Item 0 ∷ Item 2 ∷ Item 3 ∷ Stop 0 ∷ Done ∷ []) ∷ (Item 0 ∷ Item 1 ∷ Empty ∷ Stop 0 ∷ Done ∷ []) ∷ (Empty ∷ Item 0 ∷ Item 1 ∷ Stop 0 ∷ Done ∷ []) ∷ [])
     (Taking 0 (Item 0) ∷ Taking 1 (Item 0) ∷ Taking 2 (Item 2) ∷ Taking 3 (Item 0) ∷ Putting 0 (Item 0) ∷ Putting 1 (Item 0) ∷ Putting 2 Empty ∷ Taking 0 (Item 2) ∷ Taking 1 (Item 1) ∷ Putting 0 (Item 2) ∷ Putting 1 (Item 1) ∷ Putting 2 (Item 0) ∷ Taking 0 (Stop 0) ∷ Taking 1 (Stop 0) ∷ Taking 2 (Item 3) ∷ Taking 3 (Item 1) ∷ Putting 0 (Item 3) ∷ Putting 1 Empty ∷ Putting 2 (Item 1) ∷ Taking 2 (Stop 0) ∷ Taking 3 (Stop 0) ∷ Putting 0 (Stop 0) ∷ Putting 1 (Stop 0) ∷ Putting 2 (Stop 0) ∷ Taking 0 Done ∷ Taking 1 Done ∷ Taking 2 Done ∷ Taking 3 Done ∷ Putting 0 Done ∷ Putting 1 Done ∷ Putting 2 Done ∷ [])
-union_row = (refl, refl, refl)
+union-row = (refl, refl, refl)
 
 -- no payloads, and one coordinate on one side alone
-intersect_apart : Works (IntersectKind 0 0)
+intersect-apart : Works (IntersectKind 0 0)
     ((Item 1 ∷ Item 2 ∷ Stop 0 ∷ Done ∷ []) ∷ (Item 2 ∷ Stop 0 ∷ Done ∷ []) ∷ [])
     ((Item 2 ∷ Stop 0 ∷ Done ∷ []) ∷ [])
     (Taking 0 (Item 1) ∷ Taking 1 (Item 2) ∷ Taking 0 (Item 2) ∷ Putting 0 (Item 2) ∷ Taking 0 (Stop 0) ∷ Taking 1 (Stop 0) ∷ Putting 0 (Stop 0) ∷ Taking 0 Done ∷ Taking 1 Done ∷ Putting 0 Done ∷ [])
-intersect_apart = (refl, refl, refl)
+intersect-apart = (refl, refl, refl)
 
 -- nothing on either side
-intersect_empty : Works (IntersectKind 1 0)
+intersect-empty : Works (IntersectKind 1 0)
     ((Stop 1 ∷ Done ∷ []) ∷ (Stop 1 ∷ Done ∷ []) ∷ (Stop 1 ∷ Done ∷ []) ∷ [])
     ((Stop 1 ∷ Done ∷ []) ∷ (Stop 1 ∷ Done ∷ []) ∷ [])
     (Taking 0 (Stop 1) ∷ Taking 1 (Stop 1) ∷ Taking 2 (Stop 1) ∷ Putting 0 (Stop 1) ∷ Putting 1 (Stop 1) ∷ Taking 0 Done ∷ Taking 1 Done ∷ Taking 2 Done ∷ Putting 0 Done ∷ Putting 1 Done ∷ [])
-intersect_empty = (refl, refl, refl)
+intersect-empty = (refl, refl, refl)
 
 -- empty fibers, nested stops and empty payloads
-intersect_deep : Works (IntersectKind 2 1)
+intersect-deep : Works (IntersectKind 2 1)
     ((Item 1 ∷ Item 3 ∷ Stop 0 ∷ Stop 0 ∷ Item 4 ∷ Stop 1 ∷ Stop 2 ∷ Done ∷ []) ∷ (Item 5 ∷ Item 6 ∷ Stop 0 ∷ Stop 0 ∷ Item 7 ∷ Stop 1 ∷ Stop 2 ∷ Done ∷ []) ∷ (Empty ∷ Item 8 ∷ Stop 0 ∷ Stop 0 ∷ Item 9 ∷ Stop 1 ∷ Stop 2 ∷ Done ∷ []) ∷ (Item 0 ∷ Item 3 ∷ Item 9 ∷ Stop 0 ∷ Item 2 ∷ Stop 0 ∷ Stop 1 ∷ Stop 2 ∷ Done ∷ []) ∷ (Item 1 ∷ Empty ∷ Item 3 ∷ Stop 0 ∷ Item 4 ∷ Stop 0 ∷ Stop 1 ∷ Stop 2 ∷ Done ∷ []) ∷ [])
     ((Item 3 ∷ Stop 0 ∷ Stop 0 ∷ Stop 1 ∷ Stop 2 ∷ Done ∷ []) ∷ (Item 6 ∷ Stop 0 ∷ Stop 0 ∷ Stop 1 ∷ Stop 2 ∷ Done ∷ []) ∷ (Item 8 ∷ Stop 0 ∷ Stop 0 ∷ Stop 1 ∷ Stop 2 ∷ Done ∷ []) ∷ (Empty ∷ Stop 0 ∷ Stop 0 ∷ Stop 1 ∷ Stop 2 ∷ Done ∷ []) ∷ [])
     (Taking 0 (Item 1) ∷ Taking 1 (Item 5) ∷ Taking 2 Empty ∷ Taking 3 (Item 0) ∷ Taking 4 (Item 1) ∷ Taking 3 (Item 3) ∷ Taking 4 Empty ∷ Taking 0 (Item 3) ∷ Taking 1 (Item 6) ∷ Taking 2 (Item 8) ∷ Putting 0 (Item 3) ∷ Putting 1 (Item 6) ∷ Putting 2 (Item 8) ∷ Putting 3 Empty ∷ Taking 0 (Stop 0) ∷ Taking 1 (Stop 0) ∷ Taking 2 (Stop 0) ∷ Taking 3 (Item 9) ∷ Taking 4 (Item 3) ∷ Taking 3 (Stop 0) ∷ Taking 4 (Stop 0) ∷ Putting 0 (Stop 0) ∷ Putting 1 (Stop 0) ∷ Putting 2 (Stop 0) ∷ Putting 3 (Stop 0) ∷ Taking 0 (Stop 0) ∷ Taking 1 (Stop 0) ∷ Taking 2 (Stop 0) ∷ Taking 3 (Item 2) ∷ Taking 4 (Item 4) ∷ Taking 3 (Stop 0) ∷ Taking 4 (Stop 0) ∷ Putting 0 (Stop 0) ∷ Putting 1 (Stop 0) ∷ Putting 2 (Stop 0) ∷ Putting 3 (Stop 0) ∷ Taking 0 (Item 4) ∷ Taking 1 (Item 7) ∷ Taking 2 (Item 9) ∷ Taking 3 (Stop 1) ∷ Taking 4 (Stop 1) ∷ Taking 0 (Stop 1) ∷ Taking 1 (Stop 1) ∷ Taking 2 (Stop 1) ∷ Putting 0 (Stop 1) ∷ Putting 1 (Stop 1) ∷ Putting 2 (Stop 1) ∷ Putting 3 (Stop 1) ∷ Taking 0 (Stop 2) ∷ Taking 1 (Stop 2) ∷ Taking 2 (Stop 2) ∷ Taking 3 (Stop 2) ∷ Taking 4 (Stop 2) ∷ Putting 0 (Stop 2) ∷ Putting 1 (Stop 2) ∷ Putting 2 (Stop 2) ∷ Putting 3 (Stop 2) ∷ Taking 0 Done ∷ Taking 1 Done ∷ Taking 2 Done ∷ Taking 3 Done ∷ Taking 4 Done ∷ Putting 0 Done ∷ Putting 1 Done ∷ Putting 2 Done ∷ Putting 3 Done ∷ [])
-intersect_deep = (refl, refl, refl)
+intersect-deep = (refl, refl, refl)
 
 -- the same for union
-union_deep : Works (UnionKind 1 1)
+union-deep : Works (UnionKind 1 1)
     ((Stop 0 ∷ Item 4 ∷ Stop 1 ∷ Stop 2 ∷ Done ∷ []) ∷ (Stop 0 ∷ Empty ∷ Stop 1 ∷ Stop 2 ∷ Done ∷ []) ∷ (Item 0 ∷ Item 3 ∷ Stop 0 ∷ Item 2 ∷ Item 4 ∷ Stop 1 ∷ Stop 2 ∷ Done ∷ []) ∷ (Item 1 ∷ Empty ∷ Stop 0 ∷ Item 4 ∷ Item 5 ∷ Stop 1 ∷ Stop 2 ∷ Done ∷ []) ∷ [])
     ((Item 0 ∷ Item 3 ∷ Stop 0 ∷ Item 2 ∷ Item 4 ∷ Stop 1 ∷ Stop 2 ∷ Done ∷ []) ∷ (Empty ∷ Empty ∷ Stop 0 ∷ Empty ∷ Empty ∷ Stop 1 ∷ Stop 2 ∷ Done ∷ []) ∷ (Item 1 ∷ Empty ∷ Stop 0 ∷ Item 4 ∷ Item 5 ∷ Stop 1 ∷ Stop 2 ∷ Done ∷ []) ∷ [])
     (Taking 0 (Stop 0) ∷ Taking 1 (Stop 0) ∷ Taking 2 (Item 0) ∷ Taking 3 (Item 1) ∷ Putting 0 (Item 0) ∷ Putting 1 Empty ∷ Putting 2 (Item 1) ∷ Taking 2 (Item 3) ∷ Taking 3 Empty ∷ Putting 0 (Item 3) ∷ Putting 1 Empty ∷ Putting 2 Empty ∷ Taking 2 (Stop 0) ∷ Taking 3 (Stop 0) ∷ Putting 0 (Stop 0) ∷ Putting 1 (Stop 0) ∷ Putting 2 (Stop 0) ∷ Taking 0 (Item 4) ∷ Taking 1 Empty ∷ Taking 2 (Item 2) ∷ Taking 3 (Item 4) ∷ Putting 0 (Item 2) ∷ Putting 1 Empty ∷ Putting 2 (Item 4) ∷ Taking 2 (Item 4) ∷ Taking 3 (Item 5) ∷ Putting 0 (Item 4) ∷ Putting 1 Empty ∷ Putting 2 (Item 5) ∷ Taking 0 (Stop 1) ∷ Taking 1 (Stop 1) ∷ Taking 2 (Stop 1) ∷ Taking 3 (Stop 1) ∷ Putting 0 (Stop 1) ∷ Putting 1 (Stop 1) ∷ Putting 2 (Stop 1) ∷ Taking 0 (Stop 2) ∷ Taking 1 (Stop 2) ∷ Taking 2 (Stop 2) ∷ Taking 3 (Stop 2) ∷ Putting 0 (Stop 2) ∷ Putting 1 (Stop 2) ∷ Putting 2 (Stop 2) ∷ Taking 0 Done ∷ Taking 1 Done ∷ Taking 2 Done ∷ Taking 3 Done ∷ Putting 0 Done ∷ Putting 1 Done ∷ Putting 2 Done ∷ [])
-union_deep = (refl, refl, refl)
+union-deep = (refl, refl, refl)
 
 -- payloads on one side alone
-union_plain : Works (UnionKind 0 2)
+union-plain : Works (UnionKind 0 2)
     ((Item 5 ∷ Stop 0 ∷ Done ∷ []) ∷ (Item 6 ∷ Stop 0 ∷ Done ∷ []) ∷ (Item 1 ∷ Stop 0 ∷ Done ∷ []) ∷ (Item 2 ∷ Stop 0 ∷ Done ∷ []) ∷ [])
     ((Item 5 ∷ Item 6 ∷ Stop 0 ∷ Done ∷ []) ∷ (Empty ∷ Item 1 ∷ Stop 0 ∷ Done ∷ []) ∷ (Empty ∷ Item 2 ∷ Stop 0 ∷ Done ∷ []) ∷ [])
     (Taking 0 (Item 5) ∷ Taking 1 (Item 6) ∷ Taking 2 (Item 1) ∷ Taking 3 (Item 2) ∷ Putting 0 (Item 5) ∷ Putting 1 Empty ∷ Putting 2 Empty ∷ Taking 0 (Stop 0) ∷ Putting 0 (Item 6) ∷ Putting 1 (Item 1) ∷ Putting 2 (Item 2) ∷ Taking 1 (Stop 0) ∷ Taking 2 (Stop 0) ∷ Taking 3 (Stop 0) ∷ Putting 0 (Stop 0) ∷ Putting 1 (Stop 0) ∷ Putting 2 (Stop 0) ∷ Taking 0 Done ∷ Taking 1 Done ∷ Taking 2 Done ∷ Taking 3 Done ∷ Putting 0 Done ∷ Putting 1 Done ∷ Putting 2 Done ∷ [])
-union_plain = (refl, refl, refl)
+union-plain = (refl, refl, refl)

@@ -11,24 +11,24 @@ use Rattle.block_core.proofs.Standing.{stands-start}
 use Rattle.copy_blocks.specs.RepeatSteps.{repeat_steps}
 use Rattle.copy_blocks.specs.declared.repeat.RepeatState.TheVariants.{Outer, Inner}
 
-copy_run : (x : Leaf) (cs : List ℕ) (rest : List Move)
+copy-run : (x : Leaf) (cs : List ℕ) (rest : List Move)
     → Runs repeat_steps (Inner (leaf x)) rest → Runs repeat_steps (Inner (leaf x)) (copy_moves x cs rest)
-copy_run x [] rest h = h
-copy_run x (c ∷ cs) rest h = (refl, (refl, copy_run x cs rest h))
+copy-run x [] rest h = h
+copy-run x (c ∷ cs) rest h = (refl, (refl, copy-run x cs rest h))
 
-fiber_run : (n : ℕ) (x : Leaf) (cs : List ℕ) (ms : List (Leaf × List ℕ)) (rest : List Move)
+fiber-run : (n : ℕ) (x : Leaf) (cs : List ℕ) (ms : List (Leaf × List ℕ)) (rest : List Move)
     → Runs repeat_steps Outer rest → Runs repeat_steps Outer (repeat_fiber n x cs ms rest)
-fiber_run n (Some x) cs (m ∷ ms) rest h = (refl, copy_run (Some x) cs _ (refl, (refl, fiber_run n m.0 m.1 ms rest h)))
-fiber_run n None cs (m ∷ ms) rest h = (refl, copy_run None cs _ (refl, (refl, fiber_run n m.0 m.1 ms rest h)))
-fiber_run zero (Some x) cs [] rest h = (refl, copy_run (Some x) cs _ (refl, (refl, h)))
-fiber_run zero None cs [] rest h = (refl, copy_run None cs _ (refl, (refl, h)))
-fiber_run (suc k) (Some x) cs [] rest h = (refl, copy_run (Some x) cs _ (refl, (refl, (refl, h))))
-fiber_run (suc k) None cs [] rest h = (refl, copy_run None cs _ (refl, (refl, (refl, h))))
+fiber-run n (Some x) cs (m ∷ ms) rest h = (refl, copy-run (Some x) cs _ (refl, (refl, fiber-run n m.0 m.1 ms rest h)))
+fiber-run n None cs (m ∷ ms) rest h = (refl, copy-run None cs _ (refl, (refl, fiber-run n m.0 m.1 ms rest h)))
+fiber-run zero (Some x) cs [] rest h = (refl, copy-run (Some x) cs _ (refl, (refl, h)))
+fiber-run zero None cs [] rest h = (refl, copy-run None cs _ (refl, (refl, h)))
+fiber-run (suc k) (Some x) cs [] rest h = (refl, copy-run (Some x) cs _ (refl, (refl, (refl, h))))
+fiber-run (suc k) None cs [] rest h = (refl, copy-run None cs _ (refl, (refl, (refl, h))))
 
-pub repeat_run : (fs : List (Fiber (Leaf × List ℕ))) → Runs repeat_steps Outer (repeat_moves fs)
-repeat_run [] = (refl, (refl, (refl, refl)))
-repeat_run (([], n) ∷ fs) = (refl, (refl, (refl, repeat_run fs)))
-repeat_run (((m ∷ ms), n) ∷ fs) = fiber_run n m.0 m.1 ms (repeat_moves fs) (repeat_run fs)
+pub repeat-run : (fs : List (Fiber (Leaf × List ℕ))) → Runs repeat_steps Outer (repeat_moves fs)
+repeat-run [] = (refl, (refl, (refl, refl)))
+repeat-run (([], n) ∷ fs) = (refl, (refl, (refl, repeat-run fs)))
+repeat-run (((m ∷ ms), n) ∷ fs) = fiber-run n m.0 m.1 ms (repeat_moves fs) (repeat-run fs)
 
-pub repeat_starts : (s : Streams) → Fits RepeatKind s → Stands (Runs repeat_steps Outer) RepeatKind s 0
-repeat_starts s f = stands-start repeat_steps Outer RepeatKind s f (repeat_run (reading RepeatKind s))
+pub repeat-starts : (s : Streams) → Fits RepeatKind s → Stands (Runs repeat_steps Outer) RepeatKind s 0
+repeat-starts s f = stands-start repeat_steps Outer RepeatKind s f (repeat-run (reading RepeatKind s))

@@ -5,15 +5,15 @@ use Rattle.stream_tokens.specs.declared.Token.TheVariants.{Item, Empty, Stop, Do
 use Rattle.block_core.specs.declared.Wish.{Wish}
 use Rattle.block_core.specs.declared.Wish.TheVariants.{Take, Put, Finished}
 use Rattle.block_core.specs.Runs.{Steps}
-use Rattle.copy_blocks.specs.declared.cast.CastState.{CastState}
-use Rattle.copy_blocks.specs.declared.cast.CastState.TheVariants.{Wanting, Giving, Ended}
+use Rattle.copy_blocks.specs.declared.cast_block.CastState.{CastState}
+use Rattle.copy_blocks.specs.declared.cast_block.CastState.TheVariants.{Wanting, Giving, Ended}
 
 -- once a token is on all outputs
-abbrev pub after_token : Token → CastState
-after_token (Item x) = Wanting
-after_token Empty = Wanting
-after_token (Stop n) = Wanting
-after_token Done = Ended
+abbrev pub cast_after : Token → CastState
+cast_after (Item x) = Wanting
+cast_after Empty = Wanting
+cast_after (Stop n) = Wanting
+cast_after Done = Ended
 
 abbrev pub cast_wants : CastState → Wish
 cast_wants Wanting = Take 0
@@ -21,18 +21,18 @@ cast_wants (Giving t port) = Put port t
 cast_wants Ended = Finished
 
 -- a token was taken, and there are so many outputs
-abbrev pub first_given : ℕ → Token → CastState
-first_given zero t = after_token t
-first_given (suc n) t = Giving t 0
+abbrev pub cast_begun : ℕ → Token → CastState
+cast_begun zero t = cast_after t
+cast_begun (suc n) t = Giving t 0
 
 abbrev pub cast_took : ℕ → CastState → Token → CastState
-cast_took outs Wanting t = first_given outs t
+cast_took outs Wanting t = cast_begun outs t
 cast_took outs (Giving u port) t = Giving u port
 cast_took outs Ended t = Ended
 
 abbrev pub cast_put : ℕ → CastState → CastState
 cast_put outs Wanting = Wanting
-cast_put outs (Giving t port) = if nat_lt port (outs - 1) then Giving t (port + 1) else after_token t
+cast_put outs (Giving t port) = if nat_lt port (outs - 1) then Giving t (port + 1) else cast_after t
 cast_put outs Ended = Ended
 
 abbrev pub cast_steps : ℕ → Steps CastState

@@ -4,8 +4,8 @@ use Rattle.stream_tokens.specs.declared.Token.TheVariants.{Item, Empty, Stop, Do
 use Rattle.block_core.specs.declared.Wish.{Wish}
 use Rattle.block_core.specs.declared.Wish.TheVariants.{Take, Finished}
 use Rattle.block_core.specs.Runs.{Steps}
-use Rattle.copy_blocks.specs.declared.sink.DrainState.{DrainState}
-use Rattle.copy_blocks.specs.declared.sink.DrainState.TheVariants.{Wanting, Ended}
+use Rattle.copy_blocks.specs.declared.drain_block.DrainState.{DrainState}
+use Rattle.copy_blocks.specs.declared.drain_block.DrainState.TheVariants.{Wanting, Ended}
 
 abbrev pub drain_wants : DrainState → Wish
 drain_wants Wanting = Take 0

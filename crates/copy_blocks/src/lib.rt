@@ -1,13 +1,10 @@
 //! The blocks that copy tokens or let them go: the repeater, the broadcast and the drain.
 #![tactic(auto)]
 
-mod cast;
+mod cast_block;
+mod drain_block;
 mod repeat;
-mod sink;
 
-pub use cast::Broadcast;
+pub use cast_block::Cast;
+pub use drain_block::Drain;
 pub use repeat::Repeater;
-pub use sink::Drain;
-
-#[cfg(test)]
-mod tests;

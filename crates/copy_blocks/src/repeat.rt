@@ -4,7 +4,7 @@ ghost use Rattle.std.specs.Prelude.{◌≡◌, ℕ, ◌+◌, List, false, slice_
 ghost use Rattle.block_core.specs.Move.{Taking, Putting};
 ghost use Rattle.block_core.specs.Ports.{Streams};
 ghost use Rattle.block_core.specs.Kind.{RepeatKind, Fits, moves};
-ghost use Rattle.block_core.specs.Stands.{Stands};
+ghost use Rattle.block_core.specs.Stands.{Stands, StandsAtStart};
 ghost use Rattle.block_core.specs.Runs.{Runs};
 ghost use Rattle.block_core.proofs.Unique.{same-wish};
 ghost use Rattle.copy_blocks.specs.RepeatSteps.{repeat_steps};
@@ -93,7 +93,7 @@ impl Repeater {
     pub fn new() -> Repeater
         ensures same_kind { ⟦<Repeater as BlockStep>⟧.kind result ≡ RepeatKind }
         ensures sure { ⟦<Repeater as BlockStep>⟧.may_refuse result ≡ false }
-        ensures starts { (s : Streams) → Fits RepeatKind s → ⟦<Repeater as BlockStep>⟧.stands result s 0 }
+        ensures starts { StandsAtStart (⟦<Repeater as BlockStep>⟧.stands result) RepeatKind }
     {
         Repeater {
             state: RepeatState::Outer,
@@ -121,25 +121,14 @@ impl BlockStep for Repeater {
         self.state.wants()
     }
 
-    // Any token is taken as it comes, so the trait's condition isn't needed.
     #[inline]
-    fn take(&mut self, port: u32, t: Token) -> Result<(), AllocError>
-        ensures same_kind { ⟦<Repeater as BlockStep>⟧.kind self.new ≡ ⟦<Repeater as BlockStep>⟧.kind self.old }
-        ensures same_refusal { ⟦<Repeater as BlockStep>⟧.may_refuse self.new ≡ ⟦<Repeater as BlockStep>⟧.may_refuse self.old }
-        ensures moved { IfOk result (λ _. (s : Streams) (n : ℕ) → ⟦<Repeater as BlockStep>⟧.stands self.old s n → slice_get (moves (RepeatKind) s) n ≡ Some (Taking port t) → ⟦<Repeater as BlockStep>⟧.stands self.new s (n + 1)) }
-        ensures refused { IfErr result (λ _. self.new ≡ self.old) }
-        ensures sure { IsOk result }
-    {
+    fn take(&mut self, port: u32, t: Token) -> Result<(), AllocError> {
         self.state = self.state.took(t);
         Ok(())
     }
 
     #[inline]
-    fn did_put(&mut self)
-        ensures same_kind { ⟦<Repeater as BlockStep>⟧.kind self.new ≡ ⟦<Repeater as BlockStep>⟧.kind self.old }
-        ensures same_refusal { ⟦<Repeater as BlockStep>⟧.may_refuse self.new ≡ ⟦<Repeater as BlockStep>⟧.may_refuse self.old }
-        ensures moved { (s : Streams) (n : ℕ) (port : ℕ) (t : Token) → ⟦<Repeater as BlockStep>⟧.stands self.old s n → slice_get (moves (RepeatKind) s) n ≡ Some (Putting port t) → ⟦<Repeater as BlockStep>⟧.stands self.new s (n + 1) }
-    {
+    fn did_put(&mut self) {
         self.state = self.state.put();
     }
 

@@ -16,111 +16,111 @@ use Rattle.block_core.proofs.Standing.{stands-step}
 use Rattle.level_writer.specs.WriterSteps.{writer_took}
 use Rattle.level_writer.specs.Kept.{filled_by, ends_after, KeepsLevel}
 use Rattle.stream_tokens.proofs.Ending.{EndsWithin}
-use Rattle.level_writer.proofs.WriterRuns.{drain_run, drain_takes, input_ends, port_zero, items_step}
+use Rattle.level_writer.proofs.WriterRuns.{writer-run, writer-takes, input-ends, port-zero, items-step}
 
 -- ---- one token
 
 -- what a token and those after it bring is what it brings, and then what they do
-ends_step : (first filled : Bool) (crds : List ℕ) (t : Token) (s : List Token)
+ends-step : (first filled : Bool) (crds : List ℕ) (t : Token) (s : List Token)
     → ends_after first filled (length crds) (t ∷ s)
     ≡ ends_after first filled (length crds) (t ∷ []) ++ ends_after first (filled_by filled t) (length (crds ++ items_in (t ∷ []))) s
-ends_step first filled crds (Item x) s = rw (length-append, add-one) refl
-ends_step first filled crds Empty s = rw append-nil refl
-ends_step true true crds (Stop n) s = rw append-nil refl
-ends_step false true crds (Stop n) s = rw append-nil refl
-ends_step true false crds (Stop n) s = rw append-nil refl
-ends_step false false crds (Stop n) s = rw append-nil refl
-ends_step first filled crds Done s = rw append-nil refl
+ends-step first filled crds (Item x) s = rw (length-append, add-one) refl
+ends-step first filled crds Empty s = rw append-nil refl
+ends-step true true crds (Stop n) s = rw append-nil refl
+ends-step false true crds (Stop n) s = rw append-nil refl
+ends-step true false crds (Stop n) s = rw append-nil refl
+ends-step false false crds (Stop n) s = rw append-nil refl
+ends-step first filled crds Done s = rw append-nil refl
 
-level_taken : (level : ℕ) (segs crds : List ℕ) (filled ended : Bool) (s : List Token) (p : ℕ) (t : Token) (rest : List Move)
+level-taken : (level : ℕ) (segs crds : List ℕ) (filled ended : Bool) (s : List Token) (p : ℕ) (t : Token) (rest : List Move)
     → KeepsLevel level segs crds filled ended s (Taking p t ∷ rest)
     → KeepsLevel level (segs ++ ends_after (eqb level 1) filled (length crds) (t ∷ [])) (crds ++ items_in (t ∷ [])) (filled_by filled t) (writer_took ended t) s rest
-level_taken level segs crds filled ended s p t rest h =
+level-taken level segs crds filled ended s p t rest h =
     let first = eqb level 1 in
     let left = takes 0 rest in
     let C : ℕ → Type 0 = λ q. crds ++ items_in (takes 0 (Taking q t ∷ rest)) ≡ crds_of s in
     let S : ℕ → Type 0 = λ q. segs ++ ends_after first filled (length crds) (takes 0 (Taking q t ∷ rest)) ≡ segs_of level s in
-    let e : p ≡ 0 = port_zero ended p h.runs.0 in
+    let e : p ≡ 0 = port-zero ended p h.runs.0 in
     let c : crds ++ items_in (t ∷ left) ≡ crds_of s = subst C e h.crds_kept in
     let g : segs ++ ends_after first filled (length crds) (t ∷ left) ≡ segs_of level s = subst S e h.segs_kept in
     record {
       runs = h.runs.1;
-      crds_kept = append_assoc crds (items_in (t ∷ [])) (items_in left) ∙ ap (λ (x : List ℕ). crds ++ x) (sym (items_step t left)) ∙ c;
+      crds_kept = append_assoc crds (items_in (t ∷ [])) (items_in left) ∙ ap (λ (x : List ℕ). crds ++ x) (sym (items-step t left)) ∙ c;
       segs_kept = append_assoc segs (ends_after first filled (length crds) (t ∷ []))
           (ends_after first (filled_by filled t) (length (crds ++ items_in (t ∷ []))) left)
-          ∙ ap (λ (x : List ℕ). segs ++ x) (sym (ends_step first filled crds t left)) ∙ g;
+          ∙ ap (λ (x : List ℕ). segs ++ x) (sym (ends-step first filled crds t left)) ∙ g;
     }
 
-pub level_take : (level level' : ℕ) (segs segs' crds crds' : List ℕ) (filled filled' ended ended' : Bool) (s : Streams) (n p : ℕ) (t : Token)
+pub level-take : (level level' : ℕ) (segs segs' crds crds' : List ℕ) (filled filled' ended ended' : Bool) (s : Streams) (n p : ℕ) (t : Token)
     → level' ≡ level
     → segs' ≡ segs ++ ends_after (eqb level 1) filled (length crds) (t ∷ []) → crds' ≡ crds ++ items_in (t ∷ [])
     → filled' ≡ filled_by filled t → ended' ≡ writer_took ended t
     → slice_get (moves (WriteLevelKind level) s) n ≡ Some (Taking p t)
     → Stands (KeepsLevel level segs crds filled ended (port 0 s)) (WriteLevelKind level) s n
     → Stands (KeepsLevel level' segs' crds' filled' ended' (port 0 s)) (WriteLevelKind level') s (n + 1)
-level_take level level' segs segs' crds crds' filled filled' ended ended' s n p t l g c f e at h =
+level-take level level' segs segs' crds crds' filled filled' ended ended' s n p t l g c f e at h =
     rw (l, g, c, f, e)
     (stands-step (KeepsLevel level segs crds filled ended (port 0 s)) _ (WriteLevelKind level) s n (Taking p t)
-    (level_taken level segs crds filled ended (port 0 s) p t) at h)
+    (level-taken level segs crds filled ended (port 0 s) p t) at h)
 
-level_passed : (level : ℕ) (segs crds : List ℕ) (filled ended : Bool) (s : List Token) (p : ℕ) (t : Token) (rest : List Move)
+level-passed : (level : ℕ) (segs crds : List ℕ) (filled ended : Bool) (s : List Token) (p : ℕ) (t : Token) (rest : List Move)
     → KeepsLevel level segs crds filled ended s (Putting p t ∷ rest) → KeepsLevel level segs crds filled ended s rest
-level_passed level segs crds filled ended s p t rest h = record { runs = h.runs.1; crds_kept = h.crds_kept; segs_kept = h.segs_kept }
+level-passed level segs crds filled ended s p t rest h = record { runs = h.runs.1; crds_kept = h.crds_kept; segs_kept = h.segs_kept }
 
-pub level_put : (level : ℕ) (segs crds : List ℕ) (filled ended : Bool) (s : Streams) (n p : ℕ) (t : Token)
+pub level-put : (level : ℕ) (segs crds : List ℕ) (filled ended : Bool) (s : Streams) (n p : ℕ) (t : Token)
     → slice_get (moves (WriteLevelKind level) s) n ≡ Some (Putting p t)
     → Stands (KeepsLevel level segs crds filled ended (port 0 s)) (WriteLevelKind level) s n
     → Stands (KeepsLevel level segs crds filled ended (port 0 s)) (WriteLevelKind level) s (n + 1)
-level_put level segs crds filled ended s n p t at h =
+level-put level segs crds filled ended s n p t at h =
     stands-step (KeepsLevel level segs crds filled ended (port 0 s)) (KeepsLevel level segs crds filled ended (port 0 s)) (WriteLevelKind level) s n (Putting p t)
-    (level_passed level segs crds filled ended (port 0 s) p t) at h
+    (level-passed level segs crds filled ended (port 0 s) p t) at h
 
 -- ---- the whole stream
 
 -- a fiber with an item before
-fiber_ends : (first : Bool) (count k : ℕ) (xs : List ℕ) (t : List Token)
+fiber-ends : (first : Bool) (count k : ℕ) (xs : List ℕ) (t : List Token)
     → ends_after first true count (fiber_tokens Item xs (Stop k ∷ t)) ≡ (count + length xs) ∷ ends_after first false (count + length xs) t
-fiber_ends first count k [] t = rw add-zero refl
-fiber_ends first count k (x ∷ xs) t =
+fiber-ends first count k [] t = rw add-zero refl
+fiber-ends first count k (x ∷ xs) t =
     let e : suc count + length xs ≡ count + suc (length xs) = omega arith in
-    rw (fiber_ends first (suc count) k xs t, e) refl
+    rw (fiber-ends first (suc count) k xs t, e) refl
 
 -- the next fiber, where the fibers fs after it are as they should
-next_ends : (first : Bool) (count k : ℕ) (xs : List ℕ) (fs : List (Fiber ℕ))
+next-ends : (first : Bool) (count k : ℕ) (xs : List ℕ) (fs : List (Fiber ℕ))
     → ((m : ℕ) → ends_after first false m (flat Item fs) ≡ ends_from first m fs)
     → ends_after first false count (flat Item ((xs, suc k) ∷ fs)) ≡ ends_from first count ((xs, suc k) ∷ fs)
-next_ends true count k [] fs h = rw add-zero (ap (λ (x : List ℕ). count ∷ x) (h count))
-next_ends false count k [] fs h = h count
-next_ends true count k (x ∷ xs) fs h =
+next-ends true count k [] fs h = rw add-zero (ap (λ (x : List ℕ). count ∷ x) (h count))
+next-ends false count k [] fs h = h count
+next-ends true count k (x ∷ xs) fs h =
     let e : suc count + length xs ≡ count + suc (length xs) = omega arith in
-    rw (fiber_ends true (suc count) k xs (flat Item fs), e, h (count + suc (length xs))) refl
-next_ends false count k (x ∷ xs) fs h =
+    rw (fiber-ends true (suc count) k xs (flat Item fs), e, h (count + suc (length xs))) refl
+next-ends false count k (x ∷ xs) fs h =
     let e : suc count + length xs ≡ count + suc (length xs) = omega arith in
-    rw (fiber_ends false (suc count) k xs (flat Item fs), e, h (count + suc (length xs))) refl
+    rw (fiber-ends false (suc count) k xs (flat Item fs), e, h (count + suc (length xs))) refl
 
-whole_ends : (first : Bool) (count : ℕ) (fs : List (Fiber ℕ)) → Positive fs → ends_after first false count (flat Item fs) ≡ ends_from first count fs
-whole_ends first count [] h = refl
-whole_ends first count ((xs, n) ∷ fs) h =
+whole-ends : (first : Bool) (count : ℕ) (fs : List (Fiber ℕ)) → Positive fs → ends_after first false count (flat Item fs) ≡ ends_from first count fs
+whole-ends first count [] h = refl
+whole-ends first count ((xs, n) ∷ fs) h =
     let P : ℕ → Type 0 = λ m. ends_after first false count (flat Item ((xs, m) ∷ fs)) ≡ ends_from first count ((xs, m) ∷ fs) in
-    subst P (sym h.0.1) (next_ends first count h.0.0 xs fs (λ m. whole_ends first m fs h.1))
+    subst P (sym h.0.1) (next-ends first count h.0.0 xs fs (λ m. whole-ends first m fs h.1))
 
-pub level_start : (level : ℕ) (s : Streams) → Fits (WriteLevelKind level) s
+pub level-start : (level : ℕ) (s : Streams) → Fits (WriteLevelKind level) s
     → Stands (KeepsLevel level (0 ∷ []) [] false false (port 0 s)) (WriteLevelKind level) s 0
-level_start level s f =
+level-start level s f =
     let fs = numbers_of (port 0 s) in
     let e : flat Item fs ≡ port 0 s = ap (port 0) f.back in
-    let ends : EndsWithin 200 (flat Item fs) = subst (λ (t : List Token). EndsWithin 200 t) (sym e) (input_ends s (flat Item fs) f.back f.streams) in
-    let taken : takes 0 (drain_moves (flat Item fs)) ≡ port 0 s = drain_takes (flat Item fs) ∙ e in
+    let ends : EndsWithin 200 (flat Item fs) = subst (λ (t : List Token). EndsWithin 200 t) (sym e) (input-ends s (flat Item fs) f.back f.streams) in
+    let taken : takes 0 (drain_moves (flat Item fs)) ≡ port 0 s = writer-takes (flat Item fs) ∙ e in
     let first = eqb level 1 in
     let P : List Token → Type 0 = λ t. ends_after first false 0 t ≡ ends_from first 0 (item_fibers t) in
     let written : ends_after first false 0 (flat Item fs) ≡ ends_from first 0 (item_fibers (flat Item fs)) =
-        whole_ends first 0 fs f.well ∙ ap (ends_from first 0) (sym (item_fibers-flat fs (inl f.well))) in
+    whole-ends first 0 fs f.well ∙ ap (ends_from first 0) (sym (item_fibers-flat fs (inl f.well))) in
     let whole : ends_after first false 0 (port 0 s) ≡ ends_from first 0 (item_fibers (port 0 s)) = subst P e written in
     record {
       fits = f;
       within = omega arith;
       rest = record {
-        runs = drain_run (flat Item fs) ends;
+        runs = writer-run (flat Item fs) ends;
         crds_kept = ap items_in taken;
         segs_kept = ap (λ (t : List Token). 0 ∷ ends_after first false 0 t) taken ∙ ap (λ (x : List ℕ). 0 ∷ x) whole;
       };

@@ -15,74 +15,74 @@ use Rattle.block_core.proofs.Standing.{stands-step}
 use Rattle.level_writer.specs.WriterSteps.{writer_wants, writer_took, writer_steps}
 use Rattle.level_writer.specs.Kept.{KeepsValues}
 
-pub drain_run : (s : List Token) → EndsWithin 200 s → Runs writer_steps false (drain_moves s)
-drain_run [] h = absurd h
-drain_run (Item x ∷ s) h = (refl, drain_run s h)
-drain_run (Empty ∷ s) h = (refl, drain_run s h)
-drain_run (Stop n ∷ s) h = (refl, drain_run s h.1)
-drain_run (Done ∷ s) h = let P : List Token → Type 0 = λ x. Runs writer_steps false (drain_moves (Done ∷ x)) in subst P (sym h) (refl, refl)
+pub writer-run : (s : List Token) → EndsWithin 200 s → Runs writer_steps false (drain_moves s)
+writer-run [] h = absurd h
+writer-run (Item x ∷ s) h = (refl, writer-run s h)
+writer-run (Empty ∷ s) h = (refl, writer-run s h)
+writer-run (Stop n ∷ s) h = (refl, writer-run s h.1)
+writer-run (Done ∷ s) h = let P : List Token → Type 0 = λ x. Runs writer_steps false (drain_moves (Done ∷ x)) in subst P (sym h) (refl, refl)
 
-pub drain_takes : (s : List Token) → takes 0 (drain_moves s) ≡ s
-drain_takes [] = refl
-drain_takes (t ∷ s) = ap (λ (x : List Token). t ∷ x) (drain_takes s)
+pub writer-takes : (s : List Token) → takes 0 (drain_moves s) ≡ s
+writer-takes [] = refl
+writer-takes (t ∷ s) = ap (λ (x : List Token). t ∷ x) (writer-takes s)
 
 -- the one input is the stream of a tree
-pub input_ends : (s : Streams) (t : List Token) → t ∷ [] ≡ s → AllStreams s → EndsWithin 200 (port 0 s)
-input_ends s t e h =
+pub input-ends : (s : Streams) (t : List Token) → t ∷ [] ≡ s → AllStreams s → EndsWithin 200 (port 0 s)
+input-ends s t e h =
     let P : Streams → Type 0 = λ x. AllStreams x → EndsWithin 200 (port 0 x) in
     subst P e (λ (k : AllStreams (t ∷ [])). IsStream-ends t k.0) h
 
-pub port_zero : (ended : Bool) (p : ℕ) → writer_wants ended ≡ Take p → p ≡ 0
-port_zero false p e = cc
-port_zero true p e = cc
+pub port-zero : (ended : Bool) (p : ℕ) → writer_wants ended ≡ Take p → p ≡ 0
+port-zero false p e = cc
+port-zero true p e = cc
 
-pub items_step : (t : Token) (s : List Token) → items_in (t ∷ s) ≡ items_in (t ∷ []) ++ items_in s
-items_step (Item x) s = refl
-items_step Empty s = refl
-items_step (Stop n) s = refl
-items_step Done s = refl
+pub items-step : (t : Token) (s : List Token) → items_in (t ∷ s) ≡ items_in (t ∷ []) ++ items_in s
+items-step (Item x) s = refl
+items-step Empty s = refl
+items-step (Stop n) s = refl
+items-step Done s = refl
 
 -- ---- the values
 
-pub values_start : (s : Streams) → Fits WriteValueKind s → Stands (KeepsValues [] false (port 0 s)) WriteValueKind s 0
-values_start s f = record {
+pub values-start : (s : Streams) → Fits WriteValueKind s → Stands (KeepsValues [] false (port 0 s)) WriteValueKind s 0
+values-start s f = record {
   fits = f;
   within = omega arith;
   rest = record {
-    runs = drain_run (port 0 s) (input_ends s (port 0 s) f.back f.streams);
-    kept = ap items_in (drain_takes (port 0 s));
+    runs = writer-run (port 0 s) (input-ends s (port 0 s) f.back f.streams);
+    kept = ap items_in (writer-takes (port 0 s));
   };
 }
 
-values_taken : (vals : List ℕ) (ended : Bool) (s : List Token) (p : ℕ) (t : Token) (rest : List Move)
+values-taken : (vals : List ℕ) (ended : Bool) (s : List Token) (p : ℕ) (t : Token) (rest : List Move)
     → KeepsValues vals ended s (Taking p t ∷ rest)
     → KeepsValues (vals ++ items_in (t ∷ [])) (writer_took ended t) s rest
-values_taken vals ended s p t rest h =
+values-taken vals ended s p t rest h =
     let P : ℕ → Type 0 = λ q. vals ++ items_in (takes 0 (Taking q t ∷ rest)) ≡ vals_of s in
-    let k : vals ++ items_in (t ∷ takes 0 rest) ≡ vals_of s = subst P (port_zero ended p h.runs.0) h.kept in
+    let k : vals ++ items_in (t ∷ takes 0 rest) ≡ vals_of s = subst P (port-zero ended p h.runs.0) h.kept in
     record {
       runs = h.runs.1;
       kept = append_assoc vals (items_in (t ∷ [])) (items_in (takes 0 rest))
-          ∙ ap (λ (x : List ℕ). vals ++ x) (sym (items_step t (takes 0 rest))) ∙ k;
+          ∙ ap (λ (x : List ℕ). vals ++ x) (sym (items-step t (takes 0 rest))) ∙ k;
     }
 
-pub values_take : (vals vals' : List ℕ) (ended ended' : Bool) (s : Streams) (n p : ℕ) (t : Token)
+pub values-take : (vals vals' : List ℕ) (ended ended' : Bool) (s : Streams) (n p : ℕ) (t : Token)
     → vals' ≡ vals ++ items_in (t ∷ []) → ended' ≡ writer_took ended t
     → slice_get (moves WriteValueKind s) n ≡ Some (Taking p t)
     → Stands (KeepsValues vals ended (port 0 s)) WriteValueKind s n
     → Stands (KeepsValues vals' ended' (port 0 s)) WriteValueKind s (n + 1)
-values_take vals vals' ended ended' s n p t e d at h =
+values-take vals vals' ended ended' s n p t e d at h =
     stands-step (KeepsValues vals ended (port 0 s)) (KeepsValues vals' ended' (port 0 s)) WriteValueKind s n (Taking p t)
-    (λ rest k. rw (e, d) (values_taken vals ended (port 0 s) p t rest k)) at h
+    (λ rest k. rw (e, d) (values-taken vals ended (port 0 s) p t rest k)) at h
 
-values_passed : (vals : List ℕ) (ended : Bool) (s : List Token) (p : ℕ) (t : Token) (rest : List Move)
+values-passed : (vals : List ℕ) (ended : Bool) (s : List Token) (p : ℕ) (t : Token) (rest : List Move)
     → KeepsValues vals ended s (Putting p t ∷ rest) → KeepsValues vals ended s rest
-values_passed vals ended s p t rest h = record { runs = h.runs.1; kept = h.kept }
+values-passed vals ended s p t rest h = record { runs = h.runs.1; kept = h.kept }
 
-pub values_put : (vals : List ℕ) (ended : Bool) (s : Streams) (n p : ℕ) (t : Token)
+pub values-put : (vals : List ℕ) (ended : Bool) (s : Streams) (n p : ℕ) (t : Token)
     → slice_get (moves WriteValueKind s) n ≡ Some (Putting p t)
     → Stands (KeepsValues vals ended (port 0 s)) WriteValueKind s n
     → Stands (KeepsValues vals ended (port 0 s)) WriteValueKind s (n + 1)
-values_put vals ended s n p t at h =
+values-put vals ended s n p t at h =
     stands-step (KeepsValues vals ended (port 0 s)) (KeepsValues vals ended (port 0 s)) WriteValueKind s n (Putting p t)
-    (values_passed vals ended (port 0 s) p t) at h
+    (values-passed vals ended (port 0 s) p t) at h

@@ -7,7 +7,8 @@ ghost use Rattle.block_core.specs.Move.{Taking, Putting};
 ghost use Rattle.block_core.specs.Ports.{Streams, port};
 ghost use Rattle.block_core.specs.Kind.{Fits, WriteLevelKind, moves};
 ghost use Rattle.block_core.specs.Written.{items_in, segs_of, crds_of};
-ghost use Rattle.block_core.specs.Stands.{Stands};
+ghost use Rattle.block_core.specs.Steps.{StandsAfterPut};
+ghost use Rattle.block_core.specs.Stands.{Stands, StandsAtStart};
 ghost use Rattle.block_core.proofs.Unique.{same-wish};
 ghost use Rattle.level_writer.specs.WriterSteps.{writer_took};
 ghost use Rattle.level_writer.specs.Kept.{KeepsLevel, filled_by, ends_after};
@@ -36,7 +37,7 @@ impl LevelWriter {
     pub fn new(alloc: Global, level: u8) -> Result<LevelWriter, AllocError>
         ensures same_kind { IfOk result (λ w. ⟦<LevelWriter as BlockStep>⟧.kind w ≡ WriteLevelKind level) }
         ensures may_refuse { IfOk result (λ w. ⟦<LevelWriter as BlockStep>⟧.may_refuse w ≡ true) }
-        ensures starts { IfOk result (λ w. (s : Streams) → Fits (WriteLevelKind level) s → ⟦<LevelWriter as BlockStep>⟧.stands w s 0) }
+        ensures starts { IfOk result (λ w. StandsAtStart (⟦<LevelWriter as BlockStep>⟧.stands w) (WriteLevelKind level)) }
     {
         let mut segs = Nums::new(alloc);
         segs.push(0)?;
@@ -126,15 +127,8 @@ impl BlockStep for LevelWriter {
         }
     }
 
-    // Any token is kept as it comes, so the trait's condition isn't needed.
     #[inline]
-    fn take(&mut self, port: u32, t: Token) -> Result<(), AllocError>
-        ensures same_kind { ⟦<LevelWriter as BlockStep>⟧.kind self.new ≡ ⟦<LevelWriter as BlockStep>⟧.kind self.old }
-        ensures same_refusal { ⟦<LevelWriter as BlockStep>⟧.may_refuse self.new ≡ ⟦<LevelWriter as BlockStep>⟧.may_refuse self.old }
-        ensures moved { IfOk result (λ _. (s : Streams) (n : ℕ) → ⟦<LevelWriter as BlockStep>⟧.stands self.old s n → slice_get (moves (⟦<LevelWriter as BlockStep>⟧.kind self.old) s) n ≡ Some (Taking port t) → ⟦<LevelWriter as BlockStep>⟧.stands self.new s (n + 1)) }
-        ensures refused { IfErr result (λ _. self.new ≡ self.old) }
-        ensures sure { ⟦<LevelWriter as BlockStep>⟧.may_refuse self.old ≡ false → IsOk result }
-    {
+    fn take(&mut self, port: u32, t: Token) -> Result<(), AllocError> {
         self.keep(t)?;
         Ok(())
     }
@@ -144,7 +138,7 @@ impl BlockStep for LevelWriter {
     fn did_put(&mut self)
         ensures same_kind { ⟦<LevelWriter as BlockStep>⟧.kind self.new ≡ ⟦<LevelWriter as BlockStep>⟧.kind self.old }
         ensures same_refusal { ⟦<LevelWriter as BlockStep>⟧.may_refuse self.new ≡ ⟦<LevelWriter as BlockStep>⟧.may_refuse self.old }
-        ensures moved { (s : Streams) (n : ℕ) (port : ℕ) (t : Token) → ⟦<LevelWriter as BlockStep>⟧.stands self.old s n → slice_get (moves (⟦<LevelWriter as BlockStep>⟧.kind self.old) s) n ≡ Some (Putting port t) → ⟦<LevelWriter as BlockStep>⟧.stands self.new s (n + 1) }
+        ensures moved { StandsAfterPut (⟦<LevelWriter as BlockStep>⟧.stands self.old) (⟦<LevelWriter as BlockStep>⟧.stands self.new) (⟦<LevelWriter as BlockStep>⟧.kind self.old) }
     {}
 
     ghost stands_fits = { λ b s n h. h.fits };

@@ -5,9 +5,7 @@
 #![tactic(auto)]
 
 mod level;
-#[cfg(test)]
-mod tests;
-mod values;
+mod value;
 
 pub use level::LevelWriter;
-pub use values::ValueWriter;
+pub use value::ValueWriter;

@@ -56,11 +56,11 @@ pub record Holds (l r : ℕ) (held : List Token) (x y : ℕ → Token) : Type 0 
   pub left : (p : ℕ) → p ≤ l → get_or held p Empty ≡ x p
   pub right : (p : ℕ) → p ≤ r → get_or held (suc l + p) Empty ≡ y p
 
-le_true : (a b : ℕ) → a ≤ b → nat_le a b ≡ true
-le_true a b h = grind (arith, nat_tests)
+le-true : (a b : ℕ) → a ≤ b → nat_le a b ≡ true
+le-true a b h = grind (arith, nat_tests)
 
-le_false : (a b : ℕ) → b < a → nat_le a b ≡ false
-le_false a b h = grind (arith, nat_tests)
+le-false : (a b : ℕ) → b < a → nat_le a b ≡ false
+le-false a b h = grind (arith, nat_tests)
 
 -- a payload port of the right
 place : (l p : ℕ) → l < p → p ≡ suc (l + (p - suc l))
@@ -76,15 +76,15 @@ module _ (l r : ℕ) (held : List Token) (x y z : ℕ → Token) (h : Holds l r 
   pub row-both : ((p : ℕ) → p ≤ l → x p ≡ z p) → ((p : ℕ) → p < r → y (suc p) ≡ z (suc (l + p)))
       → (p : ℕ) → p < suc (l + r) → row_token l held Both p ≡ z p
   row-both f g p b = elim (cases_lt l p) [
-    | inl c ↦ rw (le_false p l c) (right-held p b c ∙ g (p - suc l) (omega arith) ∙ ap z (sym (place l p c)))
-    | inr c ↦ rw (le_true p l c) (h.left p c ∙ f p c)
+    | inl c ↦ rw (le-false p l c) (right-held p b c ∙ g (p - suc l) (omega arith) ∙ ap z (sym (place l p c)))
+    | inr c ↦ rw (le-true p l c) (h.left p c ∙ f p c)
   ]
 
   pub row-left : ((p : ℕ) → p ≤ l → x p ≡ z p) → ((p : ℕ) → p < r → Empty ≡ z (suc (l + p)))
       → (p : ℕ) → p < suc (l + r) → row_token l held Left p ≡ z p
   row-left f g p b = elim (cases_lt l p) [
-    | inl c ↦ rw (le_false p l c) (g (p - suc l) (omega arith) ∙ ap z (sym (place l p c)))
-    | inr c ↦ rw (le_true p l c) (h.left p c ∙ f p c)
+    | inl c ↦ rw (le-false p l c) (g (p - suc l) (omega arith) ∙ ap z (sym (place l p c)))
+    | inr c ↦ rw (le-true p l c) (h.left p c ∙ f p c)
   ]
 
   pub row-right : y 0 ≡ z 0 → ((p : ℕ) → p < l → Empty ≡ z (suc p)) → ((p : ℕ) → p < r → y (suc p) ≡ z (suc (l + p)))
@@ -93,6 +93,6 @@ module _ (l r : ℕ) (held : List Token) (x y z : ℕ → Token) (h : Holds l r 
       let a : l + 1 ≡ suc l + 0 = omega arith in
       ap (λ (n : ℕ). get_or held n Empty) a ∙ h.right 0 (omega arith) ∙ e
   row-right e f g (suc p) b = elim (cases_lt l (suc p)) [
-    | inl c ↦ rw (le_false (suc p) l c) (right-held (suc p) b c ∙ g (suc p - suc l) (omega arith) ∙ ap z (sym (place l (suc p) c)))
-    | inr c ↦ rw (le_true (suc p) l c) (f p (omega arith))
+    | inl c ↦ rw (le-false (suc p) l c) (right-held (suc p) b c ∙ g (suc p - suc l) (omega arith) ∙ ap z (sym (place l (suc p) c)))
+    | inr c ↦ rw (le-true (suc p) l c) (f p (omega arith))
   ]

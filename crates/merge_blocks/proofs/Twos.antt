@@ -13,15 +13,15 @@ abbrev pub after_two : List Move
 after_two =
     Taking 0 (Stop 0) ∷ Taking 1 (Stop 0) ∷ Putting 0 (Stop 0) ∷ Taking 0 Done ∷ Taking 1 Done ∷ Putting 0 Done ∷ []
 
-pub twos_meet : Fits (IntersectKind 0 0) twos
-twos_meet = record {
+pub twos-meet : Fits (IntersectKind 0 0) twos
+twos-meet = record {
   streams = ((1, omega arith, Some 2 ∷ [], refl), ((1, omega arith, Some 2 ∷ [], refl), tt));
   back = refl;
   well = record { closes = ((0, refl), tt); ascend = (tt, tt, tt) };
 }
 
-pub twos_unite : Fits (UnionKind 0 0) twos
-twos_unite = record {
+pub twos-unite : Fits (UnionKind 0 0) twos
+twos-unite = record {
   streams = ((1, omega arith, Some 2 ∷ [], refl), ((1, omega arith, Some 2 ∷ [], refl), tt));
   back = refl;
   well = record { closes = ((0, refl), tt); ascend = (tt, tt, tt) };

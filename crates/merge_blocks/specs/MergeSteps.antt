@@ -49,13 +49,13 @@ row_token l tokens Right (suc p) = if nat_le (suc p) l then Empty else get_or to
 row_token l tokens Both p = if nat_le p l then get_or tokens p Empty else get_or tokens (p + 1) Empty
 
 -- what follows where both heads are there: a coordinate of one side alone is put, or passed over
-abbrev pub alone : Bool → ℕ → Heads → Stage
-alone true l heads = Putting heads 0
-alone false l heads = Taking heads (first_port l heads)
+abbrev pub stage_of_one : Bool → ℕ → Heads → Stage
+stage_of_one true l heads = Putting heads 0
+stage_of_one false l heads = Taking heads (first_port l heads)
 
 abbrev pub choice : Bool → ℕ → Heads → Stage
-choice u l Left = alone u l Left
-choice u l Right = alone u l Right
+choice u l Left = stage_of_one u l Left
+choice u l Right = stage_of_one u l Right
 choice u l Both = Putting Both 0
 
 abbrev pub chosen : Bool → ℕ → List Token → Stage
@@ -74,43 +74,43 @@ after_row l tokens Right = Taking Right (first_port l Right)
 after_row l tokens Both = after_both (get_or tokens 0 Empty)
 
 -- before the take at an input port of these heads, and before the put at an output port of their row
-abbrev pub next_take : Bool → ℕ → ℕ → List Token → Heads → ℕ → Stage
-next_take u l r tokens heads p = if nat_lt p (end_port l r heads) then Taking heads p else chosen u l tokens
+abbrev pub merge_next_take : Bool → ℕ → ℕ → List Token → Heads → ℕ → Stage
+merge_next_take u l r tokens heads p = if nat_lt p (end_port l r heads) then Taking heads p else chosen u l tokens
 
-abbrev pub next_put : ℕ → ℕ → List Token → Heads → ℕ → Stage
-next_put l r tokens heads p = if nat_lt p (l + r + 1) then Putting heads p else after_row l tokens heads
+abbrev pub merge_next_put : ℕ → ℕ → List Token → Heads → ℕ → Stage
+merge_next_put l r tokens heads p = if nat_lt p (l + r + 1) then Putting heads p else after_row l tokens heads
 
 abbrev pub new_merger : Bool → ℕ → ℕ → Merger
 new_merger u l r = record { unites = u; left = l; right = r; stage = Taking Both 0; tokens = replicate 10 Empty }
 
 -- ---- the steps
 
-abbrev pub stage_wants : Merger → Stage → Wish
-stage_wants m (Taking heads p) = Take p
-stage_wants m (Putting heads p) = Put p (row_token m.left m.tokens heads p)
-stage_wants m Ended = Finished
+abbrev pub merge_stage_wants : Merger → Stage → Wish
+merge_stage_wants m (Taking heads p) = Take p
+merge_stage_wants m (Putting heads p) = Put p (row_token m.left m.tokens heads p)
+merge_stage_wants m Ended = Finished
 
 abbrev pub with_token : Merger → Heads → ℕ → List Token → Merger
-with_token m heads p tokens = record m { stage = next_take m.unites m.left m.right tokens heads (p + 1); tokens = tokens }
+with_token m heads p tokens = record m { stage = merge_next_take m.unites m.left m.right tokens heads (p + 1); tokens = tokens }
 
-abbrev pub stage_took : Merger → Token → Stage → Merger
-stage_took m t (Taking heads p) = with_token m heads p (set m.tokens p t)
-stage_took m t (Putting heads p) = m
-stage_took m t Ended = m
+abbrev pub merge_stage_took : Merger → Token → Stage → Merger
+merge_stage_took m t (Taking heads p) = with_token m heads p (set m.tokens p t)
+merge_stage_took m t (Putting heads p) = m
+merge_stage_took m t Ended = m
 
-abbrev pub stage_put : Merger → Stage → Merger
-stage_put m (Taking heads p) = m
-stage_put m (Putting heads p) = record m { stage = next_put m.left m.right m.tokens heads (p + 1) }
-stage_put m Ended = m
+abbrev pub merge_stage_put : Merger → Stage → Merger
+merge_stage_put m (Taking heads p) = m
+merge_stage_put m (Putting heads p) = record m { stage = merge_next_put m.left m.right m.tokens heads (p + 1) }
+merge_stage_put m Ended = m
 
 abbrev pub merge_wants : Merger → Wish
-merge_wants m = stage_wants m m.stage
+merge_wants m = merge_stage_wants m m.stage
 
 abbrev pub merge_took : Merger → Token → Merger
-merge_took m t = stage_took m t m.stage
+merge_took m t = merge_stage_took m t m.stage
 
 abbrev pub merge_put : Merger → Merger
-merge_put m = stage_put m m.stage
+merge_put m = merge_stage_put m m.stage
 
 abbrev pub merge_steps : Steps Merger
 merge_steps = record { wants = merge_wants; took = merge_took; put = merge_put }
@@ -118,16 +118,16 @@ merge_steps = record { wants = merge_wants; took = merge_took; put = merge_put }
 -- ---- what every merger keeps
 
 -- the next port of a stage, and how many such ports there are
-abbrev pub port_of : Stage → ℕ
-port_of (Taking heads p) = p
-port_of (Putting heads p) = p
-port_of Ended = 0
+abbrev pub merge_port : Stage → ℕ
+merge_port (Taking heads p) = p
+merge_port (Putting heads p) = p
+merge_port Ended = 0
 
-abbrev pub ports_of : ℕ → ℕ → Stage → ℕ
-ports_of l r (Taking heads p) = end_port l r heads
-ports_of l r (Putting heads p) = l + r + 1
-ports_of l r Ended = 1
+abbrev pub merge_ports : ℕ → ℕ → Stage → ℕ
+merge_ports l r (Taking heads p) = end_port l r heads
+merge_ports l r (Putting heads p) = l + r + 1
+merge_ports l r Ended = 1
 
-pub record IsWithin (m : Merger) : Type 0 where
+pub record IsMergerState (m : Merger) : Type 0 where
   pub payloads : m.left + m.right ≤ 8
-  pub port : port_of m.stage < ports_of m.left m.right m.stage
+  pub port : merge_port m.stage < merge_ports m.left m.right m.stage

@@ -3,10 +3,10 @@
 ghost use Rattle.std.specs.Prelude.{◌≡◌, ℕ, ◌+◌, ◌≤◌, false};
 ghost use Rattle.block_core.specs.Ports.{Streams};
 ghost use Rattle.block_core.specs.Kind.{IntersectKind, Fits, moves};
-ghost use Rattle.block_core.specs.Stands.{Stands};
+ghost use Rattle.block_core.specs.Stands.{Stands, StandsAtStart};
 ghost use Rattle.block_core.specs.Runs.{Runs};
 ghost use Rattle.block_core.proofs.Unique.{same-wish};
-ghost use Rattle.merge_blocks.specs.MergeSteps.{IsWithin, merge_steps};
+ghost use Rattle.merge_blocks.specs.MergeSteps.{IsMergerState, merge_steps};
 
 use crate::merger::Merger;
 use block_core::{BlockStep, Wish};
@@ -20,7 +20,7 @@ use stream_tokens::Token;
 #[derive(Clone, Copy)]
 pub struct Intersecter {
     merger: Merger,
-    ghost within: { IsWithin merger },
+    ghost within: { IsMergerState merger },
 }
 
 impl Intersecter {
@@ -29,7 +29,7 @@ impl Intersecter {
         requires payloads { left + right ≤ 8 }
         ensures same_kind { ⟦<Intersecter as BlockStep>⟧.kind result ≡ IntersectKind left right }
         ensures sure { ⟦<Intersecter as BlockStep>⟧.may_refuse result ≡ false }
-        ensures starts { (s : Streams) → Fits (IntersectKind left right) s → ⟦<Intersecter as BlockStep>⟧.stands result s 0 }
+        ensures starts { StandsAtStart (⟦<Intersecter as BlockStep>⟧.stands result) (IntersectKind left right) }
     {
         Intersecter {
             merger: Merger::new(false, left, right),

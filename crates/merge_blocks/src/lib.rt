@@ -8,10 +8,7 @@
 
 mod intersect;
 mod merger;
-mod unite;
+mod union_block;
 
 pub use intersect::Intersecter;
-pub use unite::Unioner;
-
-#[cfg(test)]
-mod tests;
+pub use union_block::Unioner;

@@ -1,7 +1,7 @@
 //! The machine of both blocks: it holds the head of each side, and puts rows made of them.
 
 ghost use Rattle.std.specs.Prelude.{◌≡◌, ◌+◌, ◌≤◌};
-ghost use Rattle.merge_blocks.specs.MergeSteps.{IsWithin, first_port, end_port, row_token, sooner, chosen, after_row, next_take, next_put, new_merger, merge_steps};
+ghost use Rattle.merge_blocks.specs.MergeSteps.{IsMergerState, first_port, end_port, row_token, sooner, chosen, after_row, merge_next_take, merge_next_put, new_merger, merge_steps};
 
 use block_core::Wish;
 use stream_tokens::Token;
@@ -64,7 +64,7 @@ impl Merger {
     pub fn new(unites: bool, left: u32, right: u32) -> Merger
         requires payloads { left + right ≤ 8 }
         ensures made { result ≡ new_merger unites left right }
-        ensures within { IsWithin result }
+        ensures within { IsMergerState result }
     {
         Merger {
             unites,
@@ -78,7 +78,7 @@ impl Merger {
     /// The number of input ports.
     #[inline]
     pub fn ins(&self) -> u32
-        requires within { IsWithin self.now }
+        requires within { IsMergerState self.now }
         ensures { result ≡ self.now.left + self.now.right + 2 }
     {
         self.left + self.right + 2
@@ -87,7 +87,7 @@ impl Merger {
     /// The number of output ports.
     #[inline]
     pub fn outs(&self) -> u32
-        requires within { IsWithin self.now }
+        requires within { IsMergerState self.now }
         ensures { result ≡ self.now.left + self.now.right + 1 }
     {
         self.left + self.right + 1
@@ -161,7 +161,7 @@ impl Merger {
 
     #[inline]
     pub fn wants(&self) -> Wish
-        requires within { IsWithin self.now }
+        requires within { IsMergerState self.now }
         ensures { result ≡ merge_steps.wants self.now }
     {
         match self.stage {
@@ -173,11 +173,11 @@ impl Merger {
 
     #[inline]
     pub fn took(&mut self, t: Token)
-        requires within { IsWithin self.old }
+        requires within { IsMergerState self.old }
         ensures steps { self.new ≡ merge_steps.took self.old t }
         ensures left { self.new.left ≡ self.old.left }
         ensures right { self.new.right ≡ self.old.right }
-        ensures within { IsWithin self.new }
+        ensures within { IsMergerState self.new }
     {
         if let Stage::Taking(heads, port) = self.stage {
             self.tokens[port as usize] = t;
@@ -191,11 +191,11 @@ impl Merger {
 
     #[inline]
     pub fn put(&mut self)
-        requires within { IsWithin self.old }
+        requires within { IsMergerState self.old }
         ensures steps { self.new ≡ merge_steps.put self.old }
         ensures left { self.new.left ≡ self.old.left }
         ensures right { self.new.right ≡ self.old.right }
-        ensures within { IsWithin self.new }
+        ensures within { IsMergerState self.new }
     {
         if let Stage::Putting(heads, port) = self.stage {
             self.stage = if port + 1 < self.outs() {

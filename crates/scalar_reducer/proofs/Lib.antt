@@ -1,2 +1,2 @@
 mod LeftSum
-mod SumRuns
+mod ScalarRuns

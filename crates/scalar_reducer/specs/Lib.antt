@@ -1,1 +1,1 @@
-pub mod SumSteps
+pub mod ScalarSteps

@@ -3,6 +3,6 @@
 //! The enclosing stream decides between one sum over nothing and no sum at all, which the values alone cannot tell.
 #![tactic(auto)]
 
-mod reducer;
+mod scalar;
 
-pub use reducer::ScalarReducer;
+pub use scalar::ScalarReducer;

@@ -18,7 +18,7 @@ use Rattle.block_core.specs.Runs.{Runs}
 use Rattle.block_core.specs.Stands.{Stands}
 use Rattle.block_core.specs.Steps.{MayTake}
 use Rattle.scanner.specs.ScanSteps.{scan_steps, is_scanned}
-use Rattle.scanner.specs.declared.state.ScanState.{ScanState}
+use Rattle.scanner.specs.declared.scan_state.ScanState.{ScanState}
 
 module _ (children : Children) where
   -- each token that is taken can be scanned
@@ -27,48 +27,48 @@ module _ (children : Children) where
   TakesScanned (Taking p t ∷ ms) = IsTrue (is_scanned children t) × TakesScanned ms
   TakesScanned (Putting p t ∷ ms) = TakesScanned ms
 
-  taken_at : (ms : List Move) (k p : ℕ) (t : Token) → TakesScanned ms → slice_get ms k ≡ Some (Taking p t) → IsTrue (is_scanned children t)
-  taken_at [] k p t h at = absurd (cc)
-  taken_at (Taking q u ∷ ms) zero p t h at =
+  taken-at : (ms : List Move) (k p : ℕ) (t : Token) → TakesScanned ms → slice_get ms k ≡ Some (Taking p t) → IsTrue (is_scanned children t)
+  taken-at [] k p t h at = absurd (cc)
+  taken-at (Taking q u ∷ ms) zero p t h at =
       let same : u ≡ t = cc in
       subst (λ (x : Token). IsTrue (is_scanned children x)) same h.0
-  taken_at (Taking q u ∷ ms) (suc k) p t h at = taken_at ms k p t h.1 at
-  taken_at (Putting q u ∷ ms) zero p t h at = absurd (cc)
-  taken_at (Putting q u ∷ ms) (suc k) p t h at = taken_at ms k p t h at
+  taken-at (Taking q u ∷ ms) (suc k) p t h at = taken-at ms k p t h.1 at
+  taken-at (Putting q u ∷ ms) zero p t h at = absurd (cc)
+  taken-at (Putting q u ∷ ms) (suc k) p t h at = taken-at ms k p t h at
 
-  kids_scanned : (cs : List (ℕ × ℕ)) (rest : List Move) → TakesScanned rest → TakesScanned (kid_moves cs rest)
-  kids_scanned [] rest h = h
-  kids_scanned (c ∷ cs) rest h = kids_scanned cs rest h
+  kids-scanned : (cs : List (ℕ × ℕ)) (rest : List Move) → TakesScanned rest → TakesScanned (kid_moves cs rest)
+  kids-scanned [] rest h = h
+  kids-scanned (c ∷ cs) rest h = kids-scanned cs rest h
 
-  scan_scanned : (more : Bool) (s : List Token) → EndsWithin 200 s → ItemsBelow (length children) s → TakesScanned (scan_moves children more s)
-  scan_scanned more [] e b = tt
-  scan_scanned false (Item r ∷ s) e b = (below b.0, kids_scanned (kids children (Some r)) _ (scan_scanned true s e b.1))
+  scan-scanned : (more : Bool) (s : List Token) → EndsWithin 200 s → ItemsBelow (length children) s → TakesScanned (scan_moves children more s)
+  scan-scanned more [] e b = tt
+  scan-scanned false (Item r ∷ s) e b = (below b.0, kids-scanned (kids children (Some r)) _ (scan-scanned true s e b.1))
     where
       below : r < length children → IsTrue (is_scanned children (Item r))
       below h = grind (arith, nat_tests)
-  scan_scanned true (Item r ∷ s) e b = (below b.0, kids_scanned (kids children (Some r)) _ (scan_scanned true s e b.1))
+  scan-scanned true (Item r ∷ s) e b = (below b.0, kids-scanned (kids children (Some r)) _ (scan-scanned true s e b.1))
     where
       below : r < length children → IsTrue (is_scanned children (Item r))
       below h = grind (arith, nat_tests)
-  scan_scanned false (Empty ∷ s) e b = (refl, scan_scanned true s e b)
-  scan_scanned true (Empty ∷ s) e b = (refl, scan_scanned true s e b)
-  scan_scanned more (Stop n ∷ s) e b = (low e.0, scan_scanned false s e.1 b)
+  scan-scanned false (Empty ∷ s) e b = (refl, scan-scanned true s e b)
+  scan-scanned true (Empty ∷ s) e b = (refl, scan-scanned true s e b)
+  scan-scanned more (Stop n ∷ s) e b = (low e.0, scan-scanned false s e.1 b)
     where
       low : n < 200 → IsTrue (is_scanned children (Stop n))
       low h = grind (arith, nat_tests)
-  scan_scanned false (Done ∷ s) e b = (refl, tt)
-  scan_scanned true (Done ∷ s) e b = (refl, tt)
+  scan-scanned false (Done ∷ s) e b = (refl, tt)
+  scan-scanned true (Done ∷ s) e b = (refl, tt)
 
-  stands_scanned : (state : ScanState) (s : Streams) (n p : ℕ) (t : Token) → Stands (Runs (scan_steps children) state) (ScanKind children) s n
+  stands-scanned : (state : ScanState) (s : Streams) (n p : ℕ) (t : Token) → Stands (Runs (scan_steps children) state) (ScanKind children) s n
       → slice_get (moves (ScanKind children) s) n ≡ Some (Taking p t) → IsTrue (is_scanned children t)
-  stands_scanned state s n p t h at =
+  stands-scanned state s n p t h at =
       let whole : AllStreams (flat leaf (reading (ScanKind children) s) ∷ []) = subst AllStreams (sym h.fits.back) h.fits.streams in
-      taken_at (moves (ScanKind children) s) n p t
-      (scan_scanned false (flat leaf (reading (ScanKind children) s)) (IsStream-ends _ whole.0) h.fits.well.references) at
+      taken-at (moves (ScanKind children) s) n p t
+      (scan-scanned false (flat leaf (reading (ScanKind children) s)) (IsStream-ends _ whole.0) h.fits.well.references) at
 
   -- where a scanner may take a token, it can be scanned
-  pub may_take_scanned : (state : ScanState) (p : ℕ) (t : Token)
+  pub may-take-scanned : (state : ScanState) (p : ℕ) (t : Token)
       → MayTake (Stands (Runs (scan_steps children) state) (ScanKind children)) (ScanKind children) p t → IsTrue (is_scanned children t)
-  may_take_scanned state p t may =
+  may-take-scanned state p t may =
       let one : IsProp (IsTrue (is_scanned children t)) = hlevel props in
-      ∥∥₁_elim {P = IsTrue (is_scanned children t)} may one (λ at. stands_scanned state at.0 at.1 p t at.2 at.3)
+      ∥∥₁_elim {P = IsTrue (is_scanned children t)} may one (λ at. stands-scanned state at.0 at.1 p t at.2 at.3)

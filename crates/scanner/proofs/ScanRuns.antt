@@ -16,45 +16,45 @@ use Rattle.block_core.specs.Runs.{Runs}
 use Rattle.block_core.specs.Stands.{Stands}
 use Rattle.block_core.proofs.Standing.{stands-start}
 use Rattle.scanner.specs.ScanSteps.{scan_steps, child_from}
-use Rattle.scanner.specs.declared.state.ScanState.{ScanState}
-use Rattle.scanner.specs.declared.state.ScanState.TheVariants.{Wanting, Child}
-use Rattle.scanner.specs.declared.state.Output.TheVariants.{Coordinates}
+use Rattle.scanner.specs.declared.scan_state.ScanState.{ScanState}
+use Rattle.scanner.specs.declared.scan_state.ScanState.TheVariants.{Wanting, Child}
+use Rattle.scanner.specs.declared.scan_state.Output.TheVariants.{Coordinates}
 use Rattle.scanner.proofs.Places.{drop-none, StandsAt, drop-some}
 
 module _ (children : Children) where
-  no_child : (r n : ℕ) → length (get_or children r []) ≤ n → child_from children r n ≡ Wanting true
-  no_child r n past =
+  no-child : (r n : ℕ) → length (get_or children r []) ≤ n → child_from children r n ≡ Wanting true
+  no-child r n past =
       let test : nat_lt n (length (get_or children r [])) ≡ false = grind (arith, nat_tests) in
       rw test refl
 
-  a_child : (r n : ℕ) → n < length (get_or children r []) → child_from children r n ≡ Child Coordinates r n
-  a_child r n inside =
+  a-child : (r n : ℕ) → n < length (get_or children r []) → child_from children r n ≡ Child Coordinates r n
+  a-child r n inside =
       let test : nat_lt n (length (get_or children r [])) ≡ true = grind (arith, nat_tests) in
       rw test refl
 
-  kids_run : (r n : ℕ) (cs : List (ℕ × ℕ)) (rest : List Move) → drop n (get_or children r []) ≡ cs
+  kids-run : (r n : ℕ) (cs : List (ℕ × ℕ)) (rest : List Move) → drop n (get_or children r []) ≡ cs
       → Runs (scan_steps children) (Wanting true) rest
       → Runs (scan_steps children) (child_from children r n) (kid_moves cs rest)
-  kids_run r n [] rest e h = subst (λ (x : ScanState). Runs (scan_steps children) x rest) (sym (no_child r n (drop-none _ n e))) h
-  kids_run r n (c ∷ cs) rest e h =
+  kids-run r n [] rest e h = subst (λ (x : ScanState). Runs (scan_steps children) x rest) (sym (no-child r n (drop-none _ n e))) h
+  kids-run r n (c ∷ cs) rest e h =
       let at : StandsAt (0, 0) (get_or children r []) n c cs = drop-some (0, 0) (get_or children r []) n c cs e in
       let next : drop (n + 1) (get_or children r []) ≡ cs = rw add-one at.after in
-      subst (λ (x : ScanState). Runs (scan_steps children) x (kid_moves (c ∷ cs) rest)) (sym (a_child r n at.inside))
-      (ap (λ (x : ℕ × ℕ). Put 0 (Item x.0)) at.there, (ap (λ (x : ℕ × ℕ). Put 1 (Item x.1)) at.there, kids_run r (n + 1) cs rest next h))
+      subst (λ (x : ScanState). Runs (scan_steps children) x (kid_moves (c ∷ cs) rest)) (sym (a-child r n at.inside))
+      (ap (λ (x : ℕ × ℕ). Put 0 (Item x.0)) at.there, (ap (λ (x : ℕ × ℕ). Put 1 (Item x.1)) at.there, kids-run r (n + 1) cs rest next h))
 
-  pub scan_run : (more : Bool) (s : List Token) → EndsWithin 200 s → Runs (scan_steps children) (Wanting more) (scan_moves children more s)
-  scan_run more [] e = absurd e
-  scan_run false (Item r ∷ s) e = (refl, kids_run r 0 (kids children (Some r)) _ refl (scan_run true s e))
-  scan_run true (Item r ∷ s) e = (refl, (refl, (refl, kids_run r 0 (kids children (Some r)) _ refl (scan_run true s e))))
-  scan_run false (Empty ∷ s) e = (refl, scan_run true s e)
-  scan_run true (Empty ∷ s) e = (refl, (refl, (refl, scan_run true s e)))
-  scan_run false (Stop n ∷ s) e = (refl, (refl, (refl, scan_run false s e.1)))
-  scan_run true (Stop n ∷ s) e = (refl, (refl, (refl, scan_run false s e.1)))
-  scan_run false (Done ∷ s) e = (refl, (refl, (refl, refl)))
-  scan_run true (Done ∷ s) e = (refl, (refl, (refl, (refl, (refl, refl)))))
+  pub scan-run : (more : Bool) (s : List Token) → EndsWithin 200 s → Runs (scan_steps children) (Wanting more) (scan_moves children more s)
+  scan-run more [] e = absurd e
+  scan-run false (Item r ∷ s) e = (refl, kids-run r 0 (kids children (Some r)) _ refl (scan-run true s e))
+  scan-run true (Item r ∷ s) e = (refl, (refl, (refl, kids-run r 0 (kids children (Some r)) _ refl (scan-run true s e))))
+  scan-run false (Empty ∷ s) e = (refl, scan-run true s e)
+  scan-run true (Empty ∷ s) e = (refl, (refl, (refl, scan-run true s e)))
+  scan-run false (Stop n ∷ s) e = (refl, (refl, (refl, scan-run false s e.1)))
+  scan-run true (Stop n ∷ s) e = (refl, (refl, (refl, scan-run false s e.1)))
+  scan-run false (Done ∷ s) e = (refl, (refl, (refl, refl)))
+  scan-run true (Done ∷ s) e = (refl, (refl, (refl, (refl, (refl, refl)))))
 
-  pub scan_starts : (s : Streams) → Fits (ScanKind children) s → Stands (Runs (scan_steps children) (Wanting false)) (ScanKind children) s 0
-  scan_starts s f =
+  pub scan-starts : (s : Streams) → Fits (ScanKind children) s → Stands (Runs (scan_steps children) (Wanting false)) (ScanKind children) s 0
+  scan-starts s f =
       let whole : AllStreams (flat leaf (reading (ScanKind children) s) ∷ []) = subst AllStreams (sym f.back) f.streams in
       stands-start (scan_steps children) (Wanting false) (ScanKind children) s f
-      (scan_run false (flat leaf (reading (ScanKind children) s)) (IsStream-ends (flat leaf (reading (ScanKind children) s)) whole.0))
+      (scan-run false (flat leaf (reading (ScanKind children) s)) (IsStream-ends (flat leaf (reading (ScanKind children) s)) whole.0))

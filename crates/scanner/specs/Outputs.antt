@@ -1,8 +1,8 @@
 -- The ports of a scanner's outputs.
 use Rattle.std.specs.Prelude.{ℕ}
-use Rattle.scanner.specs.declared.state.Output.{Output}
-use Rattle.scanner.specs.declared.state.Output.TheVariants.{Coordinates, References}
+use Rattle.scanner.specs.declared.scan_state.Output.{Output}
+use Rattle.scanner.specs.declared.scan_state.Output.TheVariants.{Coordinates, References}
 
-abbrev pub port_of : Output → ℕ
-port_of Coordinates = 0
-port_of References = 1
+abbrev pub output_port : Output → ℕ
+output_port Coordinates = 0
+output_port References = 1

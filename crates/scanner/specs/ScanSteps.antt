@@ -6,25 +6,25 @@ use Rattle.block_core.specs.declared.Wish.{Wish}
 use Rattle.block_core.specs.declared.Wish.TheVariants.{Take, Put, Finished}
 use Rattle.block_core.specs.Scan.{Children}
 use Rattle.block_core.specs.Runs.{Steps}
-use Rattle.scanner.specs.declared.state.Output.{Output}
-use Rattle.scanner.specs.declared.state.Output.TheVariants.{Coordinates, References}
-use Rattle.scanner.specs.declared.state.ScanState.{ScanState}
-use Rattle.scanner.specs.declared.state.ScanState.TheVariants.{Wanting, Parting, Child, Closing, Ended}
-use Rattle.scanner.specs.Outputs.{port_of}
+use Rattle.scanner.specs.declared.scan_state.Output.{Output}
+use Rattle.scanner.specs.declared.scan_state.Output.TheVariants.{Coordinates, References}
+use Rattle.scanner.specs.declared.scan_state.ScanState.{ScanState}
+use Rattle.scanner.specs.declared.scan_state.ScanState.TheVariants.{Wanting, Parting, Child, Closing, Ended}
+use Rattle.scanner.specs.Outputs.{output_port}
 
 -- child n of the parent r: its coordinate and its reference
 abbrev pub child_at : Children → ℕ → ℕ → ℕ × ℕ
 child_at children r n = get_or (get_or children r []) n (0, 0)
 
-abbrev pub number_at : Children → Output → ℕ → ℕ → ℕ
-number_at children Coordinates r n = (child_at children r n).0
-number_at children References r n = (child_at children r n).1
+abbrev pub child_number : Children → Output → ℕ → ℕ → ℕ
+child_number children Coordinates r n = (child_at children r n).0
+child_number children References r n = (child_at children r n).1
 
 abbrev pub scan_wants : Children → ScanState → Wish
 scan_wants children (Wanting more) = Take 0
-scan_wants children (Parting output t) = Put (port_of output) (Stop 0)
-scan_wants children (Child output r n) = Put (port_of output) (Item (number_at children output r n))
-scan_wants children (Closing output t) = Put (port_of output) t
+scan_wants children (Parting output t) = Put (output_port output) (Stop 0)
+scan_wants children (Child output r n) = Put (output_port output) (Item (child_number children output r n))
+scan_wants children (Closing output t) = Put (output_port output) t
 scan_wants children Ended = Finished
 
 -- the children of r from n on, if there are any
@@ -32,14 +32,14 @@ abbrev pub child_from : Children → ℕ → ℕ → ScanState
 child_from children r n = if nat_lt n (length (get_or children r [])) then Child Coordinates r n else Wanting true
 
 -- what a token calls for, once no fiber before it is left to be ended
-abbrev pub called_for : Children → Token → ScanState
-called_for children (Item r) = child_from children r 0
-called_for children Empty = Wanting true
-called_for children (Stop n) = Closing Coordinates (Stop (suc n))
-called_for children Done = Closing Coordinates Done
+abbrev pub scan_called_for : Children → Token → ScanState
+scan_called_for children (Item r) = child_from children r 0
+scan_called_for children Empty = Wanting true
+scan_called_for children (Stop n) = Closing Coordinates (Stop (suc n))
+scan_called_for children Done = Closing Coordinates Done
 
 abbrev pub token_took : Children → Bool → Token → ScanState
-token_took children false t = called_for children t
+token_took children false t = scan_called_for children t
 token_took children true (Item r) = Parting Coordinates (Item r)
 token_took children true Empty = Parting Coordinates Empty
 token_took children true (Stop n) = Closing Coordinates (Stop (suc n))
@@ -60,7 +60,7 @@ closed_with Done = Ended
 
 abbrev pub parting_put : Children → Output → Token → ScanState
 parting_put children Coordinates t = Parting References t
-parting_put children References t = called_for children t
+parting_put children References t = scan_called_for children t
 
 abbrev pub child_put : Children → Output → ℕ → ℕ → ScanState
 child_put children Coordinates r n = Child References r n
@@ -88,9 +88,9 @@ is_scanned children (Stop n) = nat_lt n 255
 is_scanned children Done = true
 
 -- whether what a state has to read is there
-abbrev pub is_within : Children → ScanState → Bool
-is_within children (Wanting more) = true
-is_within children (Parting output t) = is_scanned children t
-is_within children (Child output r n) = nat_lt r (length children) && nat_lt n (length (get_or children r []))
-is_within children (Closing output t) = true
-is_within children Ended = true
+abbrev pub is_scan_state : Children → ScanState → Bool
+is_scan_state children (Wanting more) = true
+is_scan_state children (Parting output t) = is_scanned children t
+is_scan_state children (Child output r n) = nat_lt r (length children) && nat_lt n (length (get_or children r []))
+is_scan_state children (Closing output t) = true
+is_scan_state children Ended = true

@@ -2,9 +2,6 @@
 #![tactic(auto)]
 
 mod scan;
-mod state;
+mod scan_state;
 
 pub use scan::Scanner;
-
-#[cfg(test)]
-mod tests;

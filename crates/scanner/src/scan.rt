@@ -4,14 +4,14 @@ ghost use Rattle.std.specs.Prelude.{◌≡◌, ◌<◌, ℕ, ◌+◌, List, [], 
 ghost use Rattle.block_core.specs.Move.{Taking, Putting};
 ghost use Rattle.block_core.specs.Ports.{Streams};
 ghost use Rattle.block_core.specs.Kind.{ScanKind, Fits, moves};
-ghost use Rattle.block_core.specs.Stands.{Stands};
+ghost use Rattle.block_core.specs.Stands.{Stands, StandsAtStart};
 ghost use Rattle.block_core.specs.Runs.{Runs};
 ghost use Rattle.block_core.proofs.Unique.{same-wish};
 ghost use Rattle.levels.specs.Reads.{children_at};
-ghost use Rattle.scanner.specs.ScanSteps.{scan_steps, scan_wants, scan_took, scan_put, number_at, child_from, called_for, is_scanned, is_within};
+ghost use Rattle.scanner.specs.ScanSteps.{scan_steps, scan_wants, scan_took, scan_put, child_number, child_from, scan_called_for, is_scanned, is_scan_state};
 
-use crate::state::Output::{self, Coordinates, References};
-use crate::state::ScanState;
+use crate::scan_state::Output::{self, Coordinates, References};
+use crate::scan_state::ScanState;
 use block_core::{BlockStep, Wish};
 use levels::Storage;
 use std::alloc::AllocError;
@@ -26,7 +26,7 @@ pub struct Scanner<'a> {
     level: u8,
     state: ScanState,
     ghost counted: { 0 < level },
-    ghost within: { IsTrue (is_within (children_at storage.now level) state) },
+    ghost within: { IsTrue (is_scan_state (children_at storage.now level) state) },
 }
 
 impl<'a> Scanner<'a> {
@@ -35,7 +35,7 @@ impl<'a> Scanner<'a> {
         requires { 0 < level }
         ensures same_kind { ⟦<Scanner<'a> as BlockStep>⟧.kind result ≡ ScanKind (children_at storage.now level) }
         ensures sure { ⟦<Scanner<'a> as BlockStep>⟧.may_refuse result ≡ false }
-        ensures starts { (s : Streams) → Fits (ScanKind (children_at storage.now level)) s → ⟦<Scanner<'a> as BlockStep>⟧.stands result s 0 }
+        ensures starts { StandsAtStart (⟦<Scanner<'a> as BlockStep>⟧.stands result) (ScanKind (children_at storage.now level)) }
     {
         Scanner {
             storage,
@@ -49,7 +49,7 @@ impl<'a> Scanner<'a> {
     fn number(&self, output: Output, r: u64, n: u64) -> u64
         requires parent { r < length (children_at self.now.storage.now self.now.level) }
         requires child { n < length (get_or (children_at self.now.storage.now self.now.level) r []) }
-        ensures { result ≡ number_at (children_at self.now.storage.now self.now.level) output r n }
+        ensures { result ≡ child_number (children_at self.now.storage.now self.now.level) output r n }
     {
         let (coordinate, reference) = self.storage.child(self.level, r, n);
         match output {
@@ -89,7 +89,7 @@ impl<'a> Scanner<'a> {
     #[inline]
     fn called_for(&self, t: Token) -> ScanState
         requires { IsTrue (is_scanned (children_at self.now.storage.now self.now.level) t) }
-        ensures { result ≡ called_for (children_at self.now.storage.now self.now.level) t }
+        ensures { result ≡ scan_called_for (children_at self.now.storage.now self.now.level) t }
     {
         match t {
             Token::Item(r) => self.first_child(r),
@@ -118,7 +118,8 @@ impl<'a> Scanner<'a> {
     #[inline]
     fn took(&self, t: Token) -> ScanState
         requires { IsTrue (is_scanned (children_at self.now.storage.now self.now.level) t) }
-        ensures { result ≡ scan_took (children_at self.now.storage.now self.now.level) self.now.state t }
+        ensures steps { result ≡ scan_took (children_at self.now.storage.now self.now.level) self.now.state t }
+        ensures within { IsTrue (is_scan_state (children_at self.now.storage.now self.now.level) result) }
     {
         let ScanState::Wanting(more) = self.state else {
             return self.state;
@@ -167,26 +168,14 @@ impl<'a> BlockStep for Scanner<'a> {
         self.wants()
     }
 
-    // It is enough that a reference is one of the level's parents, and that a stop can be raised.
     #[inline]
-    fn take(&mut self, port: u32, t: Token) -> Result<(), AllocError>
-        requires { IsTrue (is_scanned (children_at self.old.storage.now self.old.level) t) }
-        ensures same_kind { ⟦<Scanner<'a> as BlockStep>⟧.kind self.new ≡ ⟦<Scanner<'a> as BlockStep>⟧.kind self.old }
-        ensures same_refusal { ⟦<Scanner<'a> as BlockStep>⟧.may_refuse self.new ≡ ⟦<Scanner<'a> as BlockStep>⟧.may_refuse self.old }
-        ensures moved { IfOk result (λ _. (s : Streams) (n : ℕ) → ⟦<Scanner<'a> as BlockStep>⟧.stands self.old s n → slice_get (moves (ScanKind (children_at self.old.storage.now self.old.level)) s) n ≡ Some (Taking port t) → ⟦<Scanner<'a> as BlockStep>⟧.stands self.new s (n + 1)) }
-        ensures refused { IfErr result (λ _. self.new ≡ self.old) }
-        ensures sure { IsOk result }
-    {
+    fn take(&mut self, port: u32, t: Token) -> Result<(), AllocError> {
         self.state = self.took(t);
         Ok(())
     }
 
     #[inline]
-    fn did_put(&mut self)
-        ensures same_kind { ⟦<Scanner<'a> as BlockStep>⟧.kind self.new ≡ ⟦<Scanner<'a> as BlockStep>⟧.kind self.old }
-        ensures same_refusal { ⟦<Scanner<'a> as BlockStep>⟧.may_refuse self.new ≡ ⟦<Scanner<'a> as BlockStep>⟧.may_refuse self.old }
-        ensures moved { (s : Streams) (n : ℕ) (port : ℕ) (t : Token) → ⟦<Scanner<'a> as BlockStep>⟧.stands self.old s n → slice_get (moves (ScanKind (children_at self.old.storage.now self.old.level)) s) n ≡ Some (Putting port t) → ⟦<Scanner<'a> as BlockStep>⟧.stands self.new s (n + 1) }
-    {
+    fn did_put(&mut self) {
         self.state = self.put();
     }
 

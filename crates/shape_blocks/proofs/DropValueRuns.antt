@@ -13,24 +13,24 @@ use Rattle.shape_blocks.specs.DropValueSteps.{drop_value_steps}
 use Rattle.shape_blocks.specs.declared.drop_value.DropValueState.TheVariants.{Coordinate, Value}
 
 -- what follows a coordinate
-beside_run : (c : ℕ) (v : Leaf) (rest : List Move) → Runs drop_value_steps Coordinate rest
+beside-run : (c : ℕ) (v : Leaf) (rest : List Move) → Runs drop_value_steps Coordinate rest
     → Runs drop_value_steps (Value (Item c)) (Taking 1 (leaf v) ∷ put_kept c v rest)
-beside_run c None rest h = (refl, h)
-beside_run c (Some x) rest h = (refl, (refl, (refl, h)))
+beside-run c None rest h = (refl, h)
+beside-run c (Some x) rest h = (refl, (refl, (refl, h)))
 
-leaves_run : (ps : List (ℕ × Leaf)) (rest : List Move) → Runs drop_value_steps Coordinate rest
+leaves-run : (ps : List (ℕ × Leaf)) (rest : List Move) → Runs drop_value_steps Coordinate rest
     → Runs drop_value_steps Coordinate (dropvalue_leaves ps rest)
-leaves_run [] rest h = h
-leaves_run (p ∷ ps) rest h = (refl, beside_run p.0 p.1 (dropvalue_leaves ps rest) (leaves_run ps rest h))
+leaves-run [] rest h = h
+leaves-run (p ∷ ps) rest h = (refl, beside-run p.0 p.1 (dropvalue_leaves ps rest) (leaves-run ps rest h))
 
-close_run : (n : ℕ) (rest : List Move) → Runs drop_value_steps Coordinate rest
+close-run : (n : ℕ) (rest : List Move) → Runs drop_value_steps Coordinate rest
     → Runs drop_value_steps Coordinate (dropvalue_close n rest)
-close_run zero rest h = h
-close_run (suc k) rest h = (refl, (refl, (refl, (refl, h))))
+close-run zero rest h = h
+close-run (suc k) rest h = (refl, (refl, (refl, (refl, h))))
 
-pub drop_value_run : (fs : List (Fiber (ℕ × Leaf))) → Runs drop_value_steps Coordinate (dropvalue_moves fs)
-drop_value_run [] = (refl, (refl, (refl, (refl, refl))))
-drop_value_run (f ∷ fs) = leaves_run f.0 _ (close_run f.1 _ (drop_value_run fs))
+pub drop-value-run : (fs : List (Fiber (ℕ × Leaf))) → Runs drop_value_steps Coordinate (dropvalue_moves fs)
+drop-value-run [] = (refl, (refl, (refl, (refl, refl))))
+drop-value-run (f ∷ fs) = leaves-run f.0 _ (close-run f.1 _ (drop-value-run fs))
 
-pub drop_value_starts : (s : Streams) → Fits DropValueKind s → Stands (Runs drop_value_steps Coordinate) DropValueKind s 0
-drop_value_starts s f = stands-start drop_value_steps Coordinate DropValueKind s f (drop_value_run (reading DropValueKind s))
+pub drop-value-starts : (s : Streams) → Fits DropValueKind s → Stands (Runs drop_value_steps Coordinate) DropValueKind s 0
+drop-value-starts s f = stands-start drop_value_steps Coordinate DropValueKind s f (drop-value-run (reading DropValueKind s))

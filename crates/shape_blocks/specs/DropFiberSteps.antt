@@ -25,11 +25,11 @@ abbrev pub fiber_stopped : Bool → ℕ → DropFiberState
 fiber_stopped kept zero = Outer kept
 fiber_stopped kept (suc k) = Closing (Stop (suc k))
 
-abbrev pub outer_took : Bool → Token → DropFiberState
-outer_took kept (Item a) = First kept (Item a)
-outer_took kept Empty = First kept Empty
-outer_took kept (Stop n) = Beside (Stop n)
-outer_took kept Done = Beside Done
+abbrev pub drop_fiber_outer_took : Bool → Token → DropFiberState
+drop_fiber_outer_took kept (Item a) = First kept (Item a)
+drop_fiber_outer_took kept Empty = First kept Empty
+drop_fiber_outer_took kept (Stop n) = Beside (Stop n)
+drop_fiber_outer_took kept Done = Beside Done
 
 abbrev pub first_took : Bool → Token → Token → DropFiberState
 first_took kept a (Item c) = Keeping kept a (Item c)
@@ -44,7 +44,7 @@ rest_took (Stop n) = fiber_stopped true n
 rest_took Done = Ended
 
 abbrev pub drop_fiber_took : DropFiberState → Token → DropFiberState
-drop_fiber_took (Outer kept) t = outer_took kept t
+drop_fiber_took (Outer kept) t = drop_fiber_outer_took kept t
 drop_fiber_took (First kept a) t = first_took kept a t
 drop_fiber_took (Keeping kept a u) t = Keeping kept a u
 drop_fiber_took (Between u) t = Between u
@@ -56,27 +56,27 @@ drop_fiber_took (Both u v) t = Both u v
 drop_fiber_took (Second u) t = Second u
 drop_fiber_took Ended t = Ended
 
-abbrev pub kept_put : Bool → Token → DropFiberState
-kept_put true t = Between t
-kept_put false t = Inner t
+abbrev pub drop_fiber_kept_put : Bool → Token → DropFiberState
+drop_fiber_kept_put true t = Between t
+drop_fiber_kept_put false t = Inner t
 
-abbrev pub second_put : Token → DropFiberState
-second_put (Item c) = Outer false
-second_put Empty = Outer false
-second_put (Stop n) = Outer false
-second_put Done = Ended
+abbrev pub drop_fiber_second_put : Token → DropFiberState
+drop_fiber_second_put (Item c) = Outer false
+drop_fiber_second_put Empty = Outer false
+drop_fiber_second_put (Stop n) = Outer false
+drop_fiber_second_put Done = Ended
 
 abbrev pub drop_fiber_put : DropFiberState → DropFiberState
 drop_fiber_put (Outer kept) = Outer kept
 drop_fiber_put (First kept a) = First kept a
-drop_fiber_put (Keeping kept a t) = kept_put kept t
+drop_fiber_put (Keeping kept a t) = drop_fiber_kept_put kept t
 drop_fiber_put (Between t) = Inner t
 drop_fiber_put (Inner t) = Rest
 drop_fiber_put Rest = Rest
 drop_fiber_put (Closing stop) = Closing stop
 drop_fiber_put (Beside t) = Beside t
 drop_fiber_put (Both t u) = Second u
-drop_fiber_put (Second u) = second_put u
+drop_fiber_put (Second u) = drop_fiber_second_put u
 drop_fiber_put Ended = Ended
 
 abbrev pub drop_fiber_steps : Steps DropFiberState

@@ -16,14 +16,14 @@ drop_value_wants (Second v) = Put 1 v
 drop_value_wants Ended = Finished
 
 -- a coordinate is kept where its value is there
-abbrev pub valued : ℕ → Token → DropValueState
-valued c (Item x) = Both (Item c) (Item x)
-valued c Empty = Coordinate
-valued c (Stop n) = Both (Item c) (Stop n)
-valued c Done = Both (Item c) Done
+abbrev pub kept_if_valued : ℕ → Token → DropValueState
+kept_if_valued c (Item x) = Both (Item c) (Item x)
+kept_if_valued c Empty = Coordinate
+kept_if_valued c (Stop n) = Both (Item c) (Stop n)
+kept_if_valued c Done = Both (Item c) Done
 
 abbrev pub value_took : Token → Token → DropValueState
-value_took (Item c) t = valued c t
+value_took (Item c) t = kept_if_valued c t
 value_took Empty t = Both Empty t
 value_took (Stop n) t = Both (Stop n) t
 value_took Done t = Both Done t

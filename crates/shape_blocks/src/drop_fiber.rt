@@ -4,7 +4,7 @@ ghost use Rattle.std.specs.Prelude.{◌≡◌, ℕ, ◌+◌, Some, slice_get, fa
 ghost use Rattle.block_core.specs.Move.{Taking, Putting};
 ghost use Rattle.block_core.specs.Ports.{Streams};
 ghost use Rattle.block_core.specs.Kind.{DropFiberKind, Fits, moves};
-ghost use Rattle.block_core.specs.Stands.{Stands};
+ghost use Rattle.block_core.specs.Stands.{Stands, StandsAtStart};
 ghost use Rattle.block_core.specs.Runs.{Runs};
 ghost use Rattle.block_core.proofs.Unique.{same-wish};
 ghost use Rattle.shape_blocks.specs.DropFiberSteps.{fiber_stopped, drop_fiber_steps};
@@ -124,7 +124,7 @@ impl FiberDropper {
     pub fn new() -> FiberDropper
         ensures same_kind { ⟦<FiberDropper as BlockStep>⟧.kind result ≡ DropFiberKind }
         ensures sure { ⟦<FiberDropper as BlockStep>⟧.may_refuse result ≡ false }
-        ensures starts { (s : Streams) → Fits DropFiberKind s → ⟦<FiberDropper as BlockStep>⟧.stands result s 0 }
+        ensures starts { StandsAtStart (⟦<FiberDropper as BlockStep>⟧.stands result) DropFiberKind }
     {
         FiberDropper {
             state: DropFiberState::Outer(false),
@@ -152,25 +152,14 @@ impl BlockStep for FiberDropper {
         self.state.wants()
     }
 
-    // Any token is taken as it comes, and a put is as it was wished, so the trait's conditions aren't needed.
     #[inline]
-    fn take(&mut self, port: u32, t: Token) -> Result<(), AllocError>
-        ensures same_kind { ⟦<FiberDropper as BlockStep>⟧.kind self.new ≡ ⟦<FiberDropper as BlockStep>⟧.kind self.old }
-        ensures same_refusal { ⟦<FiberDropper as BlockStep>⟧.may_refuse self.new ≡ ⟦<FiberDropper as BlockStep>⟧.may_refuse self.old }
-        ensures moved { IfOk result (λ _. (s : Streams) (n : ℕ) → ⟦<FiberDropper as BlockStep>⟧.stands self.old s n → slice_get (moves DropFiberKind s) n ≡ Some (Taking port t) → ⟦<FiberDropper as BlockStep>⟧.stands self.new s (n + 1)) }
-        ensures refused { IfErr result (λ _. self.new ≡ self.old) }
-        ensures sure { IsOk result }
-    {
+    fn take(&mut self, port: u32, t: Token) -> Result<(), AllocError> {
         self.state = self.state.took(t);
         Ok(())
     }
 
     #[inline]
-    fn did_put(&mut self)
-        ensures same_kind { ⟦<FiberDropper as BlockStep>⟧.kind self.new ≡ ⟦<FiberDropper as BlockStep>⟧.kind self.old }
-        ensures same_refusal { ⟦<FiberDropper as BlockStep>⟧.may_refuse self.new ≡ ⟦<FiberDropper as BlockStep>⟧.may_refuse self.old }
-        ensures moved { (s : Streams) (n : ℕ) (port : ℕ) (t : Token) → ⟦<FiberDropper as BlockStep>⟧.stands self.old s n → slice_get (moves DropFiberKind s) n ≡ Some (Putting port t) → ⟦<FiberDropper as BlockStep>⟧.stands self.new s (n + 1) }
-    {
+    fn did_put(&mut self) {
         self.state = self.state.put();
     }
 

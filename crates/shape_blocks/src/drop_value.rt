@@ -4,7 +4,7 @@ ghost use Rattle.std.specs.Prelude.{◌≡◌, ℕ, ◌+◌, Some, slice_get, fa
 ghost use Rattle.block_core.specs.Move.{Taking, Putting};
 ghost use Rattle.block_core.specs.Ports.{Streams};
 ghost use Rattle.block_core.specs.Kind.{DropValueKind, Fits, moves};
-ghost use Rattle.block_core.specs.Stands.{Stands};
+ghost use Rattle.block_core.specs.Stands.{Stands, StandsAtStart};
 ghost use Rattle.block_core.specs.Runs.{Runs};
 ghost use Rattle.block_core.proofs.Unique.{same-wish};
 ghost use Rattle.shape_blocks.specs.DropValueSteps.{drop_value_steps};
@@ -82,7 +82,7 @@ impl ValueDropper {
     pub fn new() -> ValueDropper
         ensures same_kind { ⟦<ValueDropper as BlockStep>⟧.kind result ≡ DropValueKind }
         ensures sure { ⟦<ValueDropper as BlockStep>⟧.may_refuse result ≡ false }
-        ensures starts { (s : Streams) → Fits DropValueKind s → ⟦<ValueDropper as BlockStep>⟧.stands result s 0 }
+        ensures starts { StandsAtStart (⟦<ValueDropper as BlockStep>⟧.stands result) DropValueKind }
     {
         ValueDropper {
             state: DropValueState::Coordinate,
@@ -110,25 +110,14 @@ impl BlockStep for ValueDropper {
         self.state.wants()
     }
 
-    // Any token is taken as it comes, and a put is as it was wished, so the trait's conditions aren't needed.
     #[inline]
-    fn take(&mut self, port: u32, t: Token) -> Result<(), AllocError>
-        ensures same_kind { ⟦<ValueDropper as BlockStep>⟧.kind self.new ≡ ⟦<ValueDropper as BlockStep>⟧.kind self.old }
-        ensures same_refusal { ⟦<ValueDropper as BlockStep>⟧.may_refuse self.new ≡ ⟦<ValueDropper as BlockStep>⟧.may_refuse self.old }
-        ensures moved { IfOk result (λ _. (s : Streams) (n : ℕ) → ⟦<ValueDropper as BlockStep>⟧.stands self.old s n → slice_get (moves DropValueKind s) n ≡ Some (Taking port t) → ⟦<ValueDropper as BlockStep>⟧.stands self.new s (n + 1)) }
-        ensures refused { IfErr result (λ _. self.new ≡ self.old) }
-        ensures sure { IsOk result }
-    {
+    fn take(&mut self, port: u32, t: Token) -> Result<(), AllocError> {
         self.state = self.state.took(t);
         Ok(())
     }
 
     #[inline]
-    fn did_put(&mut self)
-        ensures same_kind { ⟦<ValueDropper as BlockStep>⟧.kind self.new ≡ ⟦<ValueDropper as BlockStep>⟧.kind self.old }
-        ensures same_refusal { ⟦<ValueDropper as BlockStep>⟧.may_refuse self.new ≡ ⟦<ValueDropper as BlockStep>⟧.may_refuse self.old }
-        ensures moved { (s : Streams) (n : ℕ) (port : ℕ) (t : Token) → ⟦<ValueDropper as BlockStep>⟧.stands self.old s n → slice_get (moves DropValueKind s) n ≡ Some (Putting port t) → ⟦<ValueDropper as BlockStep>⟧.stands self.new s (n + 1) }
-    {
+    fn did_put(&mut self) {
         self.state = self.state.put();
     }
 

@@ -4,10 +4,10 @@ ghost use Rattle.std.specs.Prelude.{◌≡◌, ℕ, ◌+◌, ◌≤◌, Some, sl
 ghost use Rattle.block_core.specs.Move.{Taking, Putting};
 ghost use Rattle.block_core.specs.Ports.{Streams};
 ghost use Rattle.block_core.specs.Kind.{FillKind, Fits, moves};
-ghost use Rattle.block_core.specs.Stands.{Stands};
+ghost use Rattle.block_core.specs.Stands.{Stands, StandsAtStart};
 ghost use Rattle.block_core.specs.Runs.{Runs};
 ghost use Rattle.block_core.proofs.Unique.{same-wish};
-ghost use Rattle.shape_blocks.specs.FillSteps.{IsWithin, fill_steps};
+ghost use Rattle.shape_blocks.specs.FillSteps.{IsFillState, fill_steps};
 
 use crate::fill_state::FillState;
 use block_core::{BlockStep, Wish};
@@ -23,7 +23,7 @@ use stream_tokens::Token;
 #[derive(Clone, Copy, Drop)]
 pub struct Filler {
     state: FillState,
-    ghost within: { IsWithin state },
+    ghost within: { IsFillState state },
 }
 
 impl Filler {
@@ -32,7 +32,7 @@ impl Filler {
         requires payloads { payloads ≤ 8 }
         ensures same_kind { ⟦<Filler as BlockStep>⟧.kind result ≡ FillKind payloads }
         ensures sure { ⟦<Filler as BlockStep>⟧.may_refuse result ≡ false }
-        ensures starts { (s : Streams) → Fits (FillKind payloads) s → ⟦<Filler as BlockStep>⟧.stands result s 0 }
+        ensures starts { StandsAtStart (⟦<Filler as BlockStep>⟧.stands result) (FillKind payloads) }
     {
         Filler {
             state: FillState::new(payloads),
@@ -60,25 +60,14 @@ impl BlockStep for Filler {
         self.state.wants()
     }
 
-    // Any token is taken as it comes, and a put is as it was wished, so the trait's conditions aren't needed.
     #[inline]
-    fn take(&mut self, port: u32, t: Token) -> Result<(), AllocError>
-        ensures same_kind { ⟦<Filler as BlockStep>⟧.kind self.new ≡ ⟦<Filler as BlockStep>⟧.kind self.old }
-        ensures same_refusal { ⟦<Filler as BlockStep>⟧.may_refuse self.new ≡ ⟦<Filler as BlockStep>⟧.may_refuse self.old }
-        ensures moved { IfOk result (λ _. (s : Streams) (n : ℕ) → ⟦<Filler as BlockStep>⟧.stands self.old s n → slice_get (moves (⟦<Filler as BlockStep>⟧.kind self.old) s) n ≡ Some (Taking port t) → ⟦<Filler as BlockStep>⟧.stands self.new s (n + 1)) }
-        ensures refused { IfErr result (λ _. self.new ≡ self.old) }
-        ensures sure { IsOk result }
-    {
+    fn take(&mut self, port: u32, t: Token) -> Result<(), AllocError> {
         self.state.took(t);
         Ok(())
     }
 
     #[inline]
-    fn did_put(&mut self)
-        ensures same_kind { ⟦<Filler as BlockStep>⟧.kind self.new ≡ ⟦<Filler as BlockStep>⟧.kind self.old }
-        ensures same_refusal { ⟦<Filler as BlockStep>⟧.may_refuse self.new ≡ ⟦<Filler as BlockStep>⟧.may_refuse self.old }
-        ensures moved { (s : Streams) (n : ℕ) (port : ℕ) (t : Token) → ⟦<Filler as BlockStep>⟧.stands self.old s n → slice_get (moves (⟦<Filler as BlockStep>⟧.kind self.old) s) n ≡ Some (Putting port t) → ⟦<Filler as BlockStep>⟧.stands self.new s (n + 1) }
-    {
+    fn did_put(&mut self) {
         self.state.put();
     }
 

@@ -1,7 +1,7 @@
 //! The states of a filler: a row of held tokens, and what is done with it next.
 
 ghost use Rattle.std.specs.Prelude.{◌≡◌, ◌≤◌};
-ghost use Rattle.shape_blocks.specs.FillSteps.{IsWithin, opened, presence_took, seek_took, head_took, drain_took, fill_steps, new_state};
+ghost use Rattle.shape_blocks.specs.FillSteps.{IsFillState, fill_opened, presence_took, seek_took, head_took, draining_took, fill_steps, new_state};
 
 use block_core::Wish;
 use stream_tokens::Token;
@@ -48,7 +48,7 @@ pub struct FillState {
 /// What follows where the presence has a token: a stop is put first where it had another before.
 #[inline]
 fn after_token(more: bool, then: Then) -> Stage
-    ensures { result ≡ opened more then }
+    ensures { result ≡ fill_opened more then }
 {
     match then {
         _ if more => Stage::Spreading(Token::Stop(0), 0, then),
@@ -79,7 +79,7 @@ impl FillState {
     pub fn new(payloads: u32) -> FillState
         requires payloads { payloads ≤ 8 }
         ensures made { result ≡ new_state payloads }
-        ensures within { IsWithin result }
+        ensures within { IsFillState result }
     {
         FillState {
             payloads,
@@ -90,7 +90,7 @@ impl FillState {
 
     #[inline]
     pub fn wants(&self) -> Wish
-        requires within { IsWithin self.now }
+        requires within { IsFillState self.now }
         ensures { result ≡ fill_steps.wants self.now }
     {
         match self.stage {
@@ -106,10 +106,10 @@ impl FillState {
 
     #[inline]
     pub fn took(&mut self, t: Token)
-        requires within { IsWithin self.old }
+        requires within { IsFillState self.old }
         ensures steps { self.new ≡ fill_steps.took self.old t }
         ensures payloads { self.new.payloads ≡ self.old.payloads }
-        ensures within { IsWithin self.new }
+        ensures within { IsFillState self.new }
     {
         match self.stage {
             Stage::Presence(more) => self.stage = after_presence(more, t),
@@ -122,10 +122,10 @@ impl FillState {
 
     #[inline]
     pub fn put(&mut self)
-        requires within { IsWithin self.old }
+        requires within { IsFillState self.old }
         ensures steps { self.new ≡ fill_steps.put self.old }
         ensures payloads { self.new.payloads ≡ self.old.payloads }
-        ensures within { IsWithin self.new }
+        ensures within { IsFillState self.new }
     {
         self.stage = match self.stage {
             Stage::Spreading(t, port, then) if port < self.payloads => Stage::Spreading(
@@ -179,7 +179,7 @@ impl FillState {
     fn drained(&mut self, port: u32, t: Token)
         requires payloads { self.old.payloads ≤ 8 }
         requires port { port ≤ self.old.payloads }
-        ensures steps { self.new ≡ drain_took self.old port t }
+        ensures steps { self.new ≡ draining_took self.old port t }
     {
         if let Token::Done = t {
             self.stage = if port < self.payloads {

@@ -9,8 +9,6 @@ mod drop_fiber;
 mod drop_value;
 mod fill;
 mod fill_state;
-#[cfg(test)]
-mod tests;
 
 pub use drop_fiber::FiberDropper;
 pub use drop_value::ValueDropper;

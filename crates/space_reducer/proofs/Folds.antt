@@ -4,7 +4,7 @@ use Rattle.stream_tokens.specs.Nest.{Leaf}
 use Rattle.block_core.specs.Arithmetic.{combined_leaf, Plus}
 use Rattle.block_core.specs.Gather.{add_at, gather, all_of}
 use Rattle.space_reducer.proofs.Changed.{change_at, add-changes, change-swap}
-use Rattle.space_reducer.proofs.Added.{plus-nothing, plus-comm, plus-assoc}
+use Rattle.block_core.proofs.Sums.{plus-nothing, plus-comm, plus-assoc}
 
 abbrev pub from_left : {A S : Type 0} → (A → S → S) → S → List A → S
 from_left f s [] = s

@@ -22,36 +22,36 @@ cmp-greater : (a b : ℕ) → b < a → nat_cmp a b ≡ Greater
 cmp-greater a b h = sym (nat_cmp_is a b Greater h)
 
 -- each coordinate is above c
-abbrev pub Above : {V : Type 0} → ℕ → List (ℕ × V) → Type 0
-Above c [] = Unit {0}
-Above c (p ∷ ps) = (c < p.0) × Above c ps
+abbrev pub AboveEach : {V : Type 0} → ℕ → List (ℕ × V) → Type 0
+AboveEach c [] = Unit {0}
+AboveEach c (p ∷ ps) = (c < p.0) × AboveEach c ps
 
 -- the coordinates ascend
-abbrev pub Ascends : {V : Type 0} → List (ℕ × V) → Type 0
-Ascends [] = Unit {0}
-Ascends (p ∷ ps) = Above p.0 ps × Ascends ps
+abbrev pub KeysAscend : {V : Type 0} → List (ℕ × V) → Type 0
+KeysAscend [] = Unit {0}
+KeysAscend (p ∷ ps) = AboveEach p.0 ps × KeysAscend ps
 
 module _ {V : Type 0} where
-  above-further : (a b : ℕ) (xs : List (ℕ × V)) → a < b → Above b xs → Above a xs
+  above-further : (a b : ℕ) (xs : List (ℕ × V)) → a < b → AboveEach b xs → AboveEach a xs
   above-further a b [] l h = tt
   above-further a b (p ∷ ps) l h = (omega (arith, l, h.0), above-further a b ps l h.1)
 
-  lookup-above : (c : ℕ) (xs : List (ℕ × V)) → Above c xs → lookup (is_at (nat_cmp c)) xs ≡ None
+  lookup-above : (c : ℕ) (xs : List (ℕ × V)) → AboveEach c xs → lookup (is_at (nat_cmp c)) xs ≡ None
   lookup-above c [] h = refl
   lookup-above c (p ∷ ps) h =
       ap (λ o. cond (is_eq o) (Some p.1) (lookup (is_at (nat_cmp c)) ps)) (cmp-less c p.0 h.0) ∙ lookup-above c ps h.1
 
-  remove-above : (c : ℕ) (xs : List (ℕ × V)) → Above c xs → remove_entry (is_at (nat_cmp c)) xs ≡ xs
+  remove-above : (c : ℕ) (xs : List (ℕ × V)) → AboveEach c xs → remove_entry (is_at (nat_cmp c)) xs ≡ xs
   remove-above c [] h = refl
   remove-above c (p ∷ ps) h =
       ap (λ o. cond (is_eq o) ps (p ∷ remove_entry (is_at (nat_cmp c)) ps)) (cmp-less c p.0 h.0) ∙ ap (λ xs. p ∷ xs) (remove-above c ps h.1)
 
-  insert-above : (c : ℕ) (v : V) (xs : List (ℕ × V)) → Above c xs → insert_entry nat_cmp xs c v ≡ (c, v) ∷ xs
+  insert-above : (c : ℕ) (v : V) (xs : List (ℕ × V)) → AboveEach c xs → insert_entry nat_cmp xs c v ≡ (c, v) ∷ xs
   insert-above c v [] h = refl
   insert-above c v (p ∷ ps) h = ap (λ o. match_ordering o ((c, v) ∷ p ∷ ps) ((p.0, v) ∷ ps) (p ∷ insert_entry nat_cmp ps c v)) (cmp-less c p.0 h.0)
 
   -- what is put where the coordinate was is a change there
-  pub insert-changes : (e : V) (f : V → V) (c : ℕ) (xs : List (ℕ × V)) → Ascends xs
+  pub insert-changes : (e : V) (f : V → V) (c : ℕ) (xs : List (ℕ × V)) → KeysAscend xs
       → insert_entry nat_cmp xs c (f (unwrap_or (lookup (is_at (nat_cmp c)) xs) e)) ≡ change_at e f c xs
   insert-changes e f c [] h = refl
   insert-changes e f c (p ∷ ps) h =
@@ -75,7 +75,7 @@ module _ {V : Type 0} where
       ]
 
   -- so is what is put after the coordinate was taken away
-  pub replace-changes : (e : V) (f : V → V) (c : ℕ) (xs : List (ℕ × V)) → Ascends xs
+  pub replace-changes : (e : V) (f : V → V) (c : ℕ) (xs : List (ℕ × V)) → KeysAscend xs
       → insert_entry nat_cmp (remove_entry (is_at (nat_cmp c)) xs) c (f (unwrap_or (lookup (is_at (nat_cmp c)) xs) e)) ≡ change_at e f c xs
   replace-changes e f c [] h = refl
   replace-changes e f c (p ∷ ps) h =
@@ -84,11 +84,11 @@ module _ {V : Type 0} where
       let both : Ordering → List (ℕ × V) = λ o. insert_entry nat_cmp (less o) c (f (unwrap_or (found o) e)) in
       elim (cases_order c p.0) [
         | inl q ↦
-            let a : Above c ps = subst (λ n. Above n ps) (sym q) h.0 in
+            let a : AboveEach c ps = subst (λ n. AboveEach n ps) (sym q) h.0 in
             ap both (cmp-equal c p.0 q) ∙ insert-above c (f p.1) ps a ∙ sym (change-here e f c p ps q)
         | inr b ↦ elim b [
           | inl q ↦
-              let a : Above c ps = above-further c p.0 ps q h.0 in
+              let a : AboveEach c ps = above-further c p.0 ps q h.0 in
               ap both (cmp-less c p.0 q)
               ∙ ap (λ xs. insert_entry nat_cmp (p ∷ xs) c (f (unwrap_or (lookup (is_at (nat_cmp c)) ps) e))) (remove-above c ps a)
               ∙ ap (λ o. insert_entry nat_cmp (p ∷ ps) c (f (unwrap_or o e))) (lookup-above c ps a)
@@ -104,10 +104,10 @@ module _ {V : Type 0} where
         ]
       ]
 
-  above-change : (e : V) (f : V → V) (a c : ℕ) (xs : List (ℕ × V)) → a < c → Above a xs → Above a (change_at e f c xs)
+  above-change : (e : V) (f : V → V) (a c : ℕ) (xs : List (ℕ × V)) → a < c → AboveEach a xs → AboveEach a (change_at e f c xs)
   above-change e f a c [] l h = (l, tt)
   above-change e f a c (p ∷ ps) l h =
-      let P : List (ℕ × V) → Type 0 = Above a in
+      let P : List (ℕ × V) → Type 0 = AboveEach a in
       elim (cases_order c p.0) [
         | inl q ↦ subst P (sym (change-here e f c p ps q)) (l, h.1)
         | inr b ↦ elim b [
@@ -117,12 +117,12 @@ module _ {V : Type 0} where
       ]
 
   -- a change keeps the order
-  pub ascends-change : (e : V) (f : V → V) (c : ℕ) (xs : List (ℕ × V)) → Ascends xs → Ascends (change_at e f c xs)
+  pub ascends-change : (e : V) (f : V → V) (c : ℕ) (xs : List (ℕ × V)) → KeysAscend xs → KeysAscend (change_at e f c xs)
   ascends-change e f c [] h = (tt, tt)
   ascends-change e f c (p ∷ ps) h =
-      let P : List (ℕ × V) → Type 0 = Ascends in
+      let P : List (ℕ × V) → Type 0 = KeysAscend in
       elim (cases_order c p.0) [
-        | inl q ↦ subst P (sym (change-here e f c p ps q)) (subst (λ n. Above n ps) (sym q) h.0, h.1)
+        | inl q ↦ subst P (sym (change-here e f c p ps q)) (subst (λ n. AboveEach n ps) (sym q) h.0, h.1)
         | inr b ↦ elim b [
           | inl q ↦ subst P (sym (change-below e f c p ps q)) ((q, above-further c p.0 ps q h.0), h)
           | inr q ↦ subst P (sym (change-above e f c p ps q)) (above-change e f p.0 c ps q h.0, ascends-change e f c ps h.1)
@@ -130,7 +130,7 @@ module _ {V : Type 0} where
       ]
 
   -- the keys of an ordered map ascend
-  above-sorted : (c : ℕ) (xs : List (ℕ × V)) → AllByRecursion (λ y. nat_cmp c y ≡ Less) (keys_of xs) → Above c xs
+  above-sorted : (c : ℕ) (xs : List (ℕ × V)) → AllByRecursion (λ y. nat_cmp c y ≡ Less) (keys_of xs) → AboveEach c xs
   above-sorted c [] h = tt
   above-sorted c (p ∷ ps) h = (less-than c p.0 h.0, above-sorted c ps h.1) where
     less-than : (a b : ℕ) → nat_cmp a b ≡ Less → a < b
@@ -140,7 +140,7 @@ module _ {V : Type 0} where
           | inr o ↦ elim o [ inl q ↦ q | inr q ↦ let d = sym (cmp-greater a b q) ∙ e in absurd (cc) ]
         ]
 
-  pub ascends-sorted : (xs : List (ℕ × V)) → IsStrictlySortedBy nat_cmp (keys_of xs) → Ascends xs
+  pub ascends-sorted : (xs : List (ℕ × V)) → IsStrictlySortedBy nat_cmp (keys_of xs) → KeysAscend xs
   unfolding IsStrictlySortedBy
   ascends-sorted [] h = tt
   ascends-sorted (p ∷ ps) h = (above-sorted p.0 ps h.0, ascends-sorted ps h.1)

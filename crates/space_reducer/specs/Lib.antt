@@ -1,3 +1,2 @@
 pub mod MatrixSteps
-pub mod ValueOf
 pub mod VectorSteps

@@ -6,7 +6,7 @@ use Rattle.std.specs.Map.{lookup, remove_entry}
 use Rattle.std.specs.BTreeMap.{insert_entry, is_at}
 use Rattle.stream_tokens.specs.declared.Token.{Token}
 use Rattle.stream_tokens.specs.declared.Token.TheVariants.{Item, Empty, Stop, Done}
-use Rattle.stream_tokens.specs.Nest.{Leaf, leaf}
+use Rattle.stream_tokens.specs.Nest.{Leaf, leaf, leaf_of}
 use Rattle.block_core.specs.declared.Wish.{Wish}
 use Rattle.block_core.specs.declared.Wish.TheVariants.{Take, Put, Finished}
 use Rattle.block_core.specs.Arithmetic.{combined_leaf, Plus}
@@ -16,7 +16,6 @@ use Rattle.block_core.specs.Runs.{Steps}
 use Rattle.space_reducer.specs.declared.matrix.Stops.{Stops}
 use Rattle.space_reducer.specs.declared.matrix.MatrixPhase.{MatrixPhase}
 use Rattle.space_reducer.specs.declared.matrix.MatrixPhase.TheVariants.{Outer, Inner, Value, RowEnding, Closing, BesideInner, BesideValue, PutOuter, PutInner, PutSum, BetweenInner, BetweenSums, PutFirst, PutSecond, PutThird, Ended}
-use Rattle.space_reducer.specs.ValueOf.{value_of}
 
 -- How far the reducer has come; the rows it keeps of the piece that comes in, with the row that comes in apart; and of
 -- the last piece the rows it has left to put, with what is left of the row that it puts.
@@ -55,11 +54,11 @@ abbrev pub row_resumed : ℕ → MatrixState → MatrixState
 row_resumed a s =
     record s { phase = Inner a; rows = remove_entry (is_at (nat_cmp a)) s.rows; row = unwrap_or (lookup (is_at (nat_cmp a)) s.rows) [] }
 
-abbrev pub outer_took : Token → MatrixState → MatrixState
-outer_took (Item a) s = row_resumed a s
-outer_took Empty s = s
-outer_took (Stop n) s = record s { phase = BesideInner (Stop n) }
-outer_took Done s = record s { phase = BesideInner Done }
+abbrev pub matrix_outer_took : Token → MatrixState → MatrixState
+matrix_outer_took (Item a) s = row_resumed a s
+matrix_outer_took Empty s = s
+matrix_outer_took (Stop n) s = record s { phase = BesideInner (Stop n) }
+matrix_outer_took Done s = record s { phase = BesideInner Done }
 
 abbrev pub beneath_took : ℕ → Token → MatrixPhase
 beneath_took a (Item c) = Value a c
@@ -77,8 +76,8 @@ row_kept a s = record s { rows = insert_entry nat_cmp s.rows a s.row; row = [] }
 
 -- ---- what is put
 
-abbrev pub last_put : Stops → MatrixPhase
-last_put stops = PutFirst (Stop stops.outer) (Stop stops.inner)
+abbrev pub matrix_last_put : Stops → MatrixPhase
+matrix_last_put stops = PutFirst (Stop stops.outer) (Stop stops.inner)
 
 -- the outer coordinate of the first row that is left
 abbrev pub next_outer : List MatrixRow → Option ℕ
@@ -94,16 +93,16 @@ abbrev pub row_opened : MatrixState → MatrixState
 row_opened s = opened_from s.left_rows s
 
 -- all that is kept is to be put: the first row begins, or the stops are put
-abbrev pub flushed : Stops → List MatrixRow → List (ℕ × Leaf) → List (ℕ × Leaf) → MatrixState
-flushed stops [] row left = matrix_state (last_put stops) [] row [] left
-flushed stops (g ∷ gs) row left = matrix_state (PutOuter g.0 stops) [] row gs g.1
+abbrev pub matrix_flush_of : Stops → List MatrixRow → List (ℕ × Leaf) → List (ℕ × Leaf) → MatrixState
+matrix_flush_of stops [] row left = matrix_state (matrix_last_put stops) [] row [] left
+matrix_flush_of stops (g ∷ gs) row left = matrix_state (PutOuter g.0 stops) [] row gs g.1
 
-abbrev pub flush : Stops → MatrixState → MatrixState
-flush stops s = flushed stops s.rows s.row s.left
+abbrev pub matrix_flush : Stops → MatrixState → MatrixState
+matrix_flush stops s = matrix_flush_of stops s.rows s.row s.left
 
 -- a row ended: the next begins, or the stops are put
 abbrev pub row_put : Stops → List MatrixRow → List MatrixRow → List (ℕ × Leaf) → MatrixState
-row_put stops [] rows row = matrix_state (last_put stops) rows row [] []
+row_put stops [] rows row = matrix_state (matrix_last_put stops) rows row [] []
 row_put stops (g ∷ gs) rows row = matrix_state (BetweenInner g.0 stops) rows row gs g.1
 
 -- the next pair of the row is put, or what comes behind it
@@ -111,39 +110,39 @@ abbrev pub pair_put : Stops → List (ℕ × Leaf) → List MatrixRow → List M
 pair_put stops [] gs rows row = row_put stops gs rows row
 pair_put stops (p ∷ ps) gs rows row = matrix_state (PutInner p.0 p.1 stops) rows row gs ps
 
-abbrev pub next_put : Stops → MatrixState → MatrixState
-next_put stops s = pair_put stops s.left s.left_rows s.rows s.row
+abbrev pub matrix_next_put : Stops → MatrixState → MatrixState
+matrix_next_put stops s = pair_put stops s.left s.left_rows s.rows s.row
 
 -- ---- the steps
 
 abbrev pub stop_ended : ℕ → MatrixState → MatrixState
 stop_ended zero s = record s { phase = Outer }
-stop_ended (suc n) s = flush (record { outer = n; inner = suc n }) s
+stop_ended (suc n) s = matrix_flush (record { outer = n; inner = suc n }) s
 
 -- an outer fiber ended, or the outer stream
-abbrev pub ended : Token → MatrixState → MatrixState
-ended (Item x) s = record s { phase = Outer }
-ended Empty s = record s { phase = Outer }
-ended (Stop n) s = stop_ended n s
-ended Done s = record s { phase = PutFirst Done Done }
+abbrev pub matrix_ended : Token → MatrixState → MatrixState
+matrix_ended (Item x) s = record s { phase = Outer }
+matrix_ended Empty s = record s { phase = Outer }
+matrix_ended (Stop n) s = stop_ended n s
+matrix_ended Done s = record s { phase = PutFirst Done Done }
 
-abbrev pub phase_took : MatrixPhase → MatrixState → Token → MatrixState
-phase_took Outer s t = outer_took t s
-phase_took (Inner a) s t = record s { phase = beneath_took a t }
-phase_took (Value a c) s t = record s { phase = Inner a; row = add_at (combined_leaf Plus) c (value_of t) s.row }
-phase_took (RowEnding a n) s t = record (row_kept a s) { phase = behind_row n }
-phase_took Closing s t = ended t s
-phase_took (BesideInner held) s t = record s { phase = BesideValue held }
-phase_took (BesideValue held) s t = ended held s
-phase_took (PutOuter a stops) s t = s
-phase_took (PutInner c sum stops) s t = s
-phase_took (PutSum sum stops) s t = s
-phase_took (BetweenInner a stops) s t = s
-phase_took (BetweenSums a stops) s t = s
-phase_took (PutFirst u v) s t = s
-phase_took (PutSecond u) s t = s
-phase_took (PutThird u) s t = s
-phase_took Ended s t = s
+abbrev pub matrix_took : MatrixPhase → MatrixState → Token → MatrixState
+matrix_took Outer s t = matrix_outer_took t s
+matrix_took (Inner a) s t = record s { phase = beneath_took a t }
+matrix_took (Value a c) s t = record s { phase = Inner a; row = add_at (combined_leaf Plus) c (leaf_of t) s.row }
+matrix_took (RowEnding a n) s t = record (row_kept a s) { phase = behind_row n }
+matrix_took Closing s t = matrix_ended t s
+matrix_took (BesideInner held) s t = record s { phase = BesideValue held }
+matrix_took (BesideValue held) s t = matrix_ended held s
+matrix_took (PutOuter a stops) s t = s
+matrix_took (PutInner c sum stops) s t = s
+matrix_took (PutSum sum stops) s t = s
+matrix_took (BetweenInner a stops) s t = s
+matrix_took (BetweenSums a stops) s t = s
+matrix_took (PutFirst u v) s t = s
+matrix_took (PutSecond u) s t = s
+matrix_took (PutThird u) s t = s
+matrix_took Ended s t = s
 
 abbrev pub third_put : Token → MatrixPhase
 third_put (Item x) = Outer
@@ -151,27 +150,27 @@ third_put Empty = Outer
 third_put (Stop n) = Outer
 third_put Done = Ended
 
-abbrev pub phase_put : MatrixPhase → MatrixState → MatrixState
-phase_put Outer s = s
-phase_put (Inner a) s = s
-phase_put (Value a c) s = s
-phase_put (RowEnding a n) s = s
-phase_put Closing s = s
-phase_put (BesideInner t) s = s
-phase_put (BesideValue t) s = s
-phase_put (PutOuter a stops) s = next_put stops s
-phase_put (PutInner c sum stops) s = record s { phase = PutSum sum stops }
-phase_put (PutSum sum stops) s = next_put stops s
-phase_put (BetweenInner a stops) s = record s { phase = BetweenSums a stops }
-phase_put (BetweenSums a stops) s = record s { phase = PutOuter a stops }
-phase_put (PutFirst t u) s = record s { phase = PutSecond u }
-phase_put (PutSecond t) s = record s { phase = PutThird t }
-phase_put (PutThird t) s = record s { phase = third_put t }
-phase_put Ended s = s
+abbrev pub matrix_put : MatrixPhase → MatrixState → MatrixState
+matrix_put Outer s = s
+matrix_put (Inner a) s = s
+matrix_put (Value a c) s = s
+matrix_put (RowEnding a n) s = s
+matrix_put Closing s = s
+matrix_put (BesideInner t) s = s
+matrix_put (BesideValue t) s = s
+matrix_put (PutOuter a stops) s = matrix_next_put stops s
+matrix_put (PutInner c sum stops) s = record s { phase = PutSum sum stops }
+matrix_put (PutSum sum stops) s = matrix_next_put stops s
+matrix_put (BetweenInner a stops) s = record s { phase = BetweenSums a stops }
+matrix_put (BetweenSums a stops) s = record s { phase = PutOuter a stops }
+matrix_put (PutFirst t u) s = record s { phase = PutSecond u }
+matrix_put (PutSecond t) s = record s { phase = PutThird t }
+matrix_put (PutThird t) s = record s { phase = third_put t }
+matrix_put Ended s = s
 
 abbrev pub matrix_steps : Steps MatrixState
 matrix_steps = record {
   wants = λ s. matrix_wants s.phase;
-  took = λ s t. phase_took s.phase s t;
-  put = λ s. phase_put s.phase s;
+  took = λ s t. matrix_took s.phase s t;
+  put = λ s. matrix_put s.phase s;
 }

@@ -2,7 +2,7 @@
 use Rattle.std.specs.Prelude.{ℕ, zero, suc, List, [], ◌∷◌}
 use Rattle.stream_tokens.specs.declared.Token.{Token}
 use Rattle.stream_tokens.specs.declared.Token.TheVariants.{Item, Empty, Stop, Done}
-use Rattle.stream_tokens.specs.Nest.{Leaf, leaf}
+use Rattle.stream_tokens.specs.Nest.{Leaf, leaf, leaf_of}
 use Rattle.block_core.specs.declared.Wish.{Wish}
 use Rattle.block_core.specs.declared.Wish.TheVariants.{Take, Put, Finished}
 use Rattle.block_core.specs.Arithmetic.{combined_leaf, Plus}
@@ -10,7 +10,6 @@ use Rattle.block_core.specs.Gather.{add_at}
 use Rattle.block_core.specs.Runs.{Steps}
 use Rattle.space_reducer.specs.declared.vector.VectorPhase.{VectorPhase}
 use Rattle.space_reducer.specs.declared.vector.VectorPhase.TheVariants.{Coordinate, Value, Stopping, Ending, PutCoordinate, PutSum, PutFirst, PutSecond, Ended}
-use Rattle.space_reducer.specs.ValueOf.{value_of}
 
 -- how far the reducer has come, what it keeps of the piece that comes in, and what it has left to put of the last one
 pub record VectorState : Type 0 where
@@ -32,56 +31,56 @@ vector_wants (PutFirst t) = Put 0 t
 vector_wants (PutSecond t) = Put 1 t
 vector_wants Ended = Finished
 
-abbrev pub coordinate_took : Token → VectorPhase
-coordinate_took (Item c) = Value c
-coordinate_took Empty = Coordinate
-coordinate_took (Stop n) = Stopping n
-coordinate_took Done = Ending
+abbrev pub vector_coordinate_took : Token → VectorPhase
+vector_coordinate_took (Item c) = Value c
+vector_coordinate_took Empty = Coordinate
+vector_coordinate_took (Stop n) = Stopping n
+vector_coordinate_took Done = Ending
 
 -- the first pair is put next, or the stop behind them
-abbrev pub next_put : List (ℕ × Leaf) → ℕ → List (ℕ × Leaf) → VectorState
-next_put kept stop [] = vector_state (PutFirst (Stop stop)) kept []
-next_put kept stop (p ∷ ps) = vector_state (PutCoordinate p.0 p.1 stop) kept ps
+abbrev pub vector_next_put : List (ℕ × Leaf) → ℕ → List (ℕ × Leaf) → VectorState
+vector_next_put kept stop [] = vector_state (PutFirst (Stop stop)) kept []
+vector_next_put kept stop (p ∷ ps) = vector_state (PutCoordinate p.0 p.1 stop) kept ps
 
 -- all that is kept is to be put
-abbrev pub flush : VectorState → ℕ → VectorState
-flush s stop = next_put [] stop s.kept
+abbrev pub vector_flush : VectorState → ℕ → VectorState
+vector_flush s stop = vector_next_put [] stop s.kept
 
-abbrev pub stopping_took : ℕ → VectorState → VectorState
-stopping_took zero s = record s { phase = Coordinate }
-stopping_took (suc stop) s = flush s stop
+abbrev pub vector_stopping_took : ℕ → VectorState → VectorState
+vector_stopping_took zero s = record s { phase = Coordinate }
+vector_stopping_took (suc stop) s = vector_flush s stop
 
-abbrev pub phase_took : VectorPhase → VectorState → Token → VectorState
-phase_took Coordinate s t = record s { phase = coordinate_took t }
-phase_took (Value c) s t = vector_state Coordinate (add_at (combined_leaf Plus) c (value_of t) s.kept) s.left
-phase_took (Stopping n) s t = stopping_took n s
-phase_took Ending s t = record s { phase = PutFirst Done }
-phase_took (PutCoordinate c sum stop) s t = s
-phase_took (PutSum sum stop) s t = s
-phase_took (PutFirst u) s t = s
-phase_took (PutSecond u) s t = s
-phase_took Ended s t = s
+abbrev pub vector_took : VectorPhase → VectorState → Token → VectorState
+vector_took Coordinate s t = record s { phase = vector_coordinate_took t }
+vector_took (Value c) s t = vector_state Coordinate (add_at (combined_leaf Plus) c (leaf_of t) s.kept) s.left
+vector_took (Stopping n) s t = vector_stopping_took n s
+vector_took Ending s t = record s { phase = PutFirst Done }
+vector_took (PutCoordinate c sum stop) s t = s
+vector_took (PutSum sum stop) s t = s
+vector_took (PutFirst u) s t = s
+vector_took (PutSecond u) s t = s
+vector_took Ended s t = s
 
-abbrev pub second_put : Token → VectorPhase
-second_put (Item x) = Coordinate
-second_put Empty = Coordinate
-second_put (Stop n) = Coordinate
-second_put Done = Ended
+abbrev pub vector_second_put : Token → VectorPhase
+vector_second_put (Item x) = Coordinate
+vector_second_put Empty = Coordinate
+vector_second_put (Stop n) = Coordinate
+vector_second_put Done = Ended
 
-abbrev pub phase_put : VectorPhase → VectorState → VectorState
-phase_put Coordinate s = s
-phase_put (Value c) s = s
-phase_put (Stopping n) s = s
-phase_put Ending s = s
-phase_put (PutCoordinate c sum stop) s = record s { phase = PutSum sum stop }
-phase_put (PutSum sum stop) s = next_put s.kept stop s.left
-phase_put (PutFirst t) s = record s { phase = PutSecond t }
-phase_put (PutSecond t) s = record s { phase = second_put t }
-phase_put Ended s = s
+abbrev pub vector_put : VectorPhase → VectorState → VectorState
+vector_put Coordinate s = s
+vector_put (Value c) s = s
+vector_put (Stopping n) s = s
+vector_put Ending s = s
+vector_put (PutCoordinate c sum stop) s = record s { phase = PutSum sum stop }
+vector_put (PutSum sum stop) s = vector_next_put s.kept stop s.left
+vector_put (PutFirst t) s = record s { phase = PutSecond t }
+vector_put (PutSecond t) s = record s { phase = vector_second_put t }
+vector_put Ended s = s
 
 abbrev pub vector_steps : Steps VectorState
 vector_steps = record {
   wants = λ s. vector_wants s.phase;
-  took = λ s t. phase_took s.phase s t;
-  put = λ s. phase_put s.phase s;
+  took = λ s t. vector_took s.phase s t;
+  put = λ s. vector_put s.phase s;
 }

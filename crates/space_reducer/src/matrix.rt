@@ -3,12 +3,12 @@
 ghost use Rattle.std.specs.Prelude.{◌≡◌, ℕ, true, OnOk, OnErr};
 ghost use Rattle.block_core.specs.Ports.{Streams};
 ghost use Rattle.block_core.specs.Kind.{SumMatrixKind, Fits, moves};
-ghost use Rattle.block_core.specs.Stands.{Stands};
+ghost use Rattle.block_core.specs.Stands.{Stands, StandsAtStart};
 ghost use Rattle.block_core.specs.Runs.{Runs};
 ghost use Rattle.block_core.proofs.Unique.{same-wish};
-ghost use Rattle.space_reducer.specs.MatrixSteps.{matrix_steps, matrix_wants, beneath_took, behind_row, last_put, row_resumed, row_kept, next_outer, row_opened, flush, next_put, ended};
+ghost use Rattle.space_reducer.specs.MatrixSteps.{matrix_steps, matrix_wants, beneath_took, behind_row, matrix_last_put, row_resumed, row_kept, next_outer, row_opened, matrix_flush, matrix_next_put, matrix_ended};
 
-use crate::sums::{Sums, sum_token, value_in};
+use crate::sums::Sums;
 use block_core::{BlockStep, Wish};
 use std::alloc::{AllocError, Global};
 use std::collections::BTreeMap;
@@ -66,7 +66,7 @@ impl MatrixPhase {
             MatrixPhase::BesideValue(_) => Wish::Take(2),
             MatrixPhase::PutOuter(outer, _) => Wish::Put(0, Token::Item(outer)),
             MatrixPhase::PutInner(inner, _, _) => Wish::Put(1, Token::Item(inner)),
-            MatrixPhase::PutSum(sum, _) => Wish::Put(2, sum_token(sum)),
+            MatrixPhase::PutSum(sum, _) => Wish::Put(2, Token::from(sum)),
             MatrixPhase::BetweenInner(_, _) => Wish::Put(1, Token::Stop(0)),
             MatrixPhase::BetweenSums(_, _) => Wish::Put(2, Token::Stop(0)),
             MatrixPhase::PutFirst(t, _) => Wish::Put(0, t),
@@ -103,7 +103,7 @@ impl MatrixPhase {
     /// The stops behind what is put.
     #[inline]
     fn last(stops: Stops) -> MatrixPhase
-        ensures { result ≡ last_put stops }
+        ensures { result ≡ matrix_last_put stops }
     {
         MatrixPhase::PutFirst(Token::Stop(stops.outer), Token::Stop(stops.inner))
     }
@@ -141,7 +141,7 @@ impl MatrixReducer {
     pub fn new(alloc: Global) -> MatrixReducer
         ensures same_kind { ⟦<MatrixReducer as BlockStep>⟧.kind result ≡ SumMatrixKind }
         ensures may_refuse { ⟦<MatrixReducer as BlockStep>⟧.may_refuse result ≡ true }
-        ensures starts { (s : Streams) → Fits SumMatrixKind s → ⟦<MatrixReducer as BlockStep>⟧.stands result s 0 }
+        ensures starts { StandsAtStart (⟦<MatrixReducer as BlockStep>⟧.stands result) SumMatrixKind }
     {
         let no_rows: BTreeMap<u64, Sums> = BTreeMap::new(alloc);
         MatrixReducer {
@@ -195,7 +195,7 @@ impl MatrixReducer {
 
     /// All that was kept is put, and then the stops; nothing is kept any more.
     fn flush(&mut self, stops: Stops)
-        ensures { self.new ≡ flush stops self.old }
+        ensures { self.new ≡ matrix_flush stops self.old }
     {
         self.left_rows = mem::replace(&mut self.rows, BTreeMap::new(self.alloc)).into_iter();
         self.phase = match self.open_row() {
@@ -207,7 +207,7 @@ impl MatrixReducer {
     /// Goes on to the next pair of the row, or the next row, or the stops behind them.
     #[inline]
     fn put_next(&mut self, stops: Stops)
-        ensures { self.new ≡ next_put stops self.old }
+        ensures { self.new ≡ matrix_next_put stops self.old }
     {
         self.phase = match self.left.next() {
             Some((inner, sum)) => MatrixPhase::PutInner(inner, sum, stops),
@@ -221,7 +221,7 @@ impl MatrixReducer {
     /// Goes on behind the token that ended an outer fiber, or the outer stream.
     #[inline]
     fn go_on(&mut self, t: Token)
-        ensures { self.new ≡ ended t self.old }
+        ensures { self.new ≡ matrix_ended t self.old }
     {
         match t {
             Token::Item(_) | Token::Empty | Token::Stop(0) => self.phase = MatrixPhase::Outer,
@@ -246,7 +246,7 @@ impl MatrixReducer {
             },
             MatrixPhase::Inner(outer) => self.phase = MatrixPhase::beneath(outer, t),
             MatrixPhase::Value(outer, inner) => {
-                self.row.add(inner, value_in(t))?;
+                self.row.add(inner, t.value())?;
                 self.phase = MatrixPhase::Inner(outer);
             }
             MatrixPhase::RowEnding(outer, n) => {
@@ -320,6 +320,3 @@ impl BlockStep for MatrixReducer {
 
     ghost agrees = { λ b s r n h k a. same-wish _ _ n (moves SumMatrixKind s) (moves SumMatrixKind r) h.rest k.rest a };
 }
-
-#[cfg(test)]
-mod tests;

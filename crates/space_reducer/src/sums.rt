@@ -5,26 +5,12 @@ ghost use Rattle.std.specs.Ordering.{nat_cmp};
 ghost use Rattle.std.specs.BTreeMap.{get, insert_entry, IsOrdered};
 ghost use Rattle.block_core.specs.Arithmetic.{combined_leaf, Plus};
 ghost use Rattle.block_core.specs.Gather.{add_at};
-ghost use Rattle.stream_tokens.specs.Nest.{leaf};
-ghost use Rattle.space_reducer.specs.ValueOf.{value_of};
 
+use block_core::plus;
 use std::alloc::{AllocError, Global};
 use std::collections::BTreeMap;
 use std::collections::btree_map::IntoIter;
 use std::marker::Model;
-use stream_tokens::Token;
-
-/// A sum of two values modulo 2^64, where a value may be absent.
-#[inline]
-fn plus(a: Option<u64>, b: Option<u64>) -> Option<u64>
-    ensures { result ≡ combined_leaf Plus a b }
-{
-    match (a, b) {
-        (Some(a), Some(b)) => Some(a.wrapping_add(b)),
-        (Some(a), None) => Some(a),
-        (None, b) => b,
-    }
-}
 
 /// Adds a value to what a map has at a coordinate.
 #[inline]
@@ -82,27 +68,5 @@ impl Sums {
         ensures { result ≡ self }
     {
         self.by_coordinate.into_iter()
-    }
-}
-
-/// The value in a token, if there is one.
-#[inline]
-pub fn value_in(t: Token) -> Option<u64>
-    ensures { result ≡ value_of t }
-{
-    match t {
-        Token::Item(value) => Some(value),
-        _ => None,
-    }
-}
-
-/// The token of a sum: one over nothing is absent.
-#[inline]
-pub fn sum_token(sum: Option<u64>) -> Token
-    ensures { result ≡ leaf sum }
-{
-    match sum {
-        Some(value) => Token::Item(value),
-        None => Token::Empty,
     }
 }

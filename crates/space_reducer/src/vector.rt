@@ -4,12 +4,12 @@ ghost use Rattle.std.specs.Prelude.{◌≡◌, ℕ, true, OnOk, OnErr};
 ghost use Rattle.stream_tokens.specs.Nest.{leaf};
 ghost use Rattle.block_core.specs.Ports.{Streams};
 ghost use Rattle.block_core.specs.Kind.{SumVectorKind, Fits, moves};
-ghost use Rattle.block_core.specs.Stands.{Stands};
+ghost use Rattle.block_core.specs.Stands.{Stands, StandsAtStart};
 ghost use Rattle.block_core.specs.Runs.{Runs};
 ghost use Rattle.block_core.proofs.Unique.{same-wish};
-ghost use Rattle.space_reducer.specs.VectorSteps.{vector_steps, vector_wants, coordinate_took, next_put, flush};
+ghost use Rattle.space_reducer.specs.VectorSteps.{vector_steps, vector_wants, vector_coordinate_took, vector_next_put, vector_flush};
 
-use crate::sums::{Sums, sum_token, value_in};
+use crate::sums::Sums;
 use block_core::{BlockStep, Wish};
 use std::alloc::{AllocError, Global};
 use std::collections::btree_map::IntoIter;
@@ -46,7 +46,7 @@ impl VectorPhase {
             VectorPhase::Coordinate => Wish::Take(0),
             VectorPhase::Value(_) | VectorPhase::Stopping(_) | VectorPhase::Ending => Wish::Take(1),
             VectorPhase::PutCoordinate(coordinate, _, _) => Wish::Put(0, Token::Item(coordinate)),
-            VectorPhase::PutSum(sum, _) => Wish::Put(1, sum_token(sum)),
+            VectorPhase::PutSum(sum, _) => Wish::Put(1, Token::from(sum)),
             VectorPhase::PutFirst(t) => Wish::Put(0, t),
             VectorPhase::PutSecond(t) => Wish::Put(1, t),
             VectorPhase::Ended => Wish::Finished,
@@ -57,7 +57,7 @@ impl VectorPhase {
 /// Where a token of the coordinates leads.
 #[inline]
 fn after_coordinate(t: Token) -> VectorPhase
-    ensures { result ≡ coordinate_took t }
+    ensures { result ≡ vector_coordinate_took t }
 {
     match t {
         Token::Item(coordinate) => VectorPhase::Value(coordinate),
@@ -95,7 +95,7 @@ impl VectorReducer {
     pub fn new(alloc: Global) -> VectorReducer
         ensures same_kind { ⟦<VectorReducer as BlockStep>⟧.kind result ≡ SumVectorKind }
         ensures may_refuse { ⟦<VectorReducer as BlockStep>⟧.may_refuse result ≡ true }
-        ensures starts { (s : Streams) → Fits SumVectorKind s → ⟦<VectorReducer as BlockStep>⟧.stands result s 0 }
+        ensures starts { StandsAtStart (⟦<VectorReducer as BlockStep>⟧.stands result) SumVectorKind }
     {
         VectorReducer {
             phase: VectorPhase::Coordinate,
@@ -108,7 +108,7 @@ impl VectorReducer {
     /// Goes on to the next of the pairs that are left, or to the stop behind them.
     #[inline]
     fn put_next(&mut self, stop: u8)
-        ensures { self.new ≡ next_put self.old.kept stop self.old.left }
+        ensures { self.new ≡ vector_next_put self.old.kept stop self.old.left }
     {
         self.phase = match self.left.next() {
             Some((coordinate, sum)) => VectorPhase::PutCoordinate(coordinate, sum, stop),
@@ -119,7 +119,7 @@ impl VectorReducer {
     /// All that was kept is put, and then a stop; nothing is kept any more. The map gives its memory back as it is put:
     /// one of std keeps none for later.
     fn flush(&mut self, stop: u8)
-        ensures { self.new ≡ flush self.old stop }
+        ensures { self.new ≡ vector_flush self.old stop }
     {
         self.left = mem::replace(&mut self.kept, Sums::new(self.alloc)).into_pairs();
         self.put_next(stop);
@@ -133,7 +133,7 @@ impl VectorReducer {
         match self.phase {
             VectorPhase::Coordinate => self.phase = after_coordinate(t),
             VectorPhase::Value(coordinate) => {
-                self.kept.add(coordinate, value_in(t))?;
+                self.kept.add(coordinate, t.value())?;
                 self.phase = VectorPhase::Coordinate;
             }
             VectorPhase::Stopping(0) => self.phase = VectorPhase::Coordinate,
@@ -194,173 +194,4 @@ impl BlockStep for VectorReducer {
     ghost stands_within = { λ b s n h. h.within };
 
     ghost agrees = { λ b s r n h k a. same-wish _ _ n (moves SumVectorKind s) (moves SumVectorKind r) h.rest k.rest a };
-}
-
-#[cfg(test)]
-mod tests {
-    use super::*;
-    use std::test::Fail;
-    use stream_tokens::Token::{Done, Empty, Item, Stop};
-
-    /// Feeds whole inputs to a reducer, and gives the tokens that it puts on its two outputs.
-    fn outputs_of(
-        alloc: Global,
-        coordinates: &[Token],
-        values: &[Token],
-    ) -> Result<(Vec<Token>, Vec<Token>), Fail> {
-        let mut coordinates = coordinates.iter();
-        let mut values = values.iter();
-        let mut first = Vec::new(alloc);
-        let mut second = Vec::new(alloc);
-        let mut block = VectorReducer::new(alloc);
-        for _ in 0..100 {
-            match block.wish() {
-                Wish::Take(0) => block.took(*coordinates.next().ok_or("a take past the end")?)?,
-                Wish::Take(_) => block.took(*values.next().ok_or("a take past the end")?)?,
-                Wish::Put(0, t) => {
-                    first.push(t)?;
-                    block.put();
-                }
-                Wish::Put(_, t) => {
-                    second.push(t)?;
-                    block.put();
-                }
-                Wish::Finished => return Ok((first, second)),
-            }
-        }
-        Err("not finished")?
-    }
-
-    #[test]
-    fn outputs_are_those_of_the_table(rt: HostRuntime) -> Result<(), Fail> {
-        let rows: [[&[Token]; 4]; 6] = [
-            [
-                &[Item(0), Item(1), Stop(0), Item(1), Stop(1), Done],
-                &[Item(2), Item(3), Stop(0), Item(4), Stop(1), Done],
-                &[Item(0), Item(1), Stop(0), Done],
-                &[Item(2), Item(7), Stop(0), Done],
-            ],
-            // An empty piece.
-            [
-                &[Stop(1), Done],
-                &[Stop(1), Done],
-                &[Stop(0), Done],
-                &[Stop(0), Done],
-            ],
-            // A sum that wraps to 0 stays.
-            [
-                &[Item(0), Stop(0), Item(0), Stop(1), Done],
-                &[Item(u64::MAX), Stop(0), Item(1), Stop(1), Done],
-                &[Item(0), Stop(0), Done],
-                &[Item(0), Stop(0), Done],
-            ],
-            // A value among absent ones.
-            [
-                &[Item(4), Stop(0), Item(4), Stop(0), Item(4), Stop(1), Done],
-                &[Empty, Stop(0), Item(8), Stop(0), Empty, Stop(1), Done],
-                &[Item(4), Stop(0), Done],
-                &[Item(8), Stop(0), Done],
-            ],
-            // Two pieces of one coordinate.
-            [
-                &[Item(1), Stop(1), Item(1), Stop(2), Done],
-                &[Item(5), Stop(1), Item(6), Stop(2), Done],
-                &[Item(1), Stop(0), Item(1), Stop(1), Done],
-                &[Item(5), Stop(0), Item(6), Stop(1), Done],
-            ],
-            // Coordinates that do not come in order, absent sums, and an empty piece between two others.
-            [
-                &[
-                    Item(3),
-                    Item(1),
-                    Stop(0),
-                    Item(2),
-                    Stop(1),
-                    Stop(1),
-                    Item(5),
-                    Stop(2),
-                    Done,
-                ],
-                &[
-                    Item(4),
-                    Empty,
-                    Stop(0),
-                    Empty,
-                    Stop(1),
-                    Stop(1),
-                    Item(7),
-                    Stop(2),
-                    Done,
-                ],
-                &[
-                    Item(1),
-                    Item(2),
-                    Item(3),
-                    Stop(0),
-                    Stop(0),
-                    Item(5),
-                    Stop(1),
-                    Done,
-                ],
-                &[
-                    Empty,
-                    Empty,
-                    Item(4),
-                    Stop(0),
-                    Stop(0),
-                    Item(7),
-                    Stop(1),
-                    Done,
-                ],
-            ],
-        ];
-        for (n, [coordinates, values, first, second]) in rows.iter().enumerate() {
-            let outputs = outputs_of(rt.alloc(), coordinates, values)?;
-            assert_eq!(rt; outputs.0.as_slice(), *first, "coordinates of row {n}");
-            assert_eq!(rt; outputs.1.as_slice(), *second, "values of row {n}");
-        }
-        Ok(())
-    }
-
-    #[test]
-    fn a_piece_of_a_million_coordinates_ascends(rt: HostRuntime) -> Result<(), Fail> {
-        let mut block = VectorReducer::new(rt.alloc());
-        for n in 0..1_000_000_u64 {
-            block.took(Item(n * 7919 % 1_000_003))?;
-            block.took(Item(n))?;
-        }
-        block.took(Stop(1))?;
-        block.took(Stop(1))?;
-        let mut below = None;
-        for _ in 0..1_000_000 {
-            let Wish::Put(0, Item(coordinate)) = block.wish() else {
-                return Err("a coordinate is wanted")?;
-            };
-            assert!(rt; below < Some(coordinate));
-            below = Some(coordinate);
-            block.put();
-            block.put();
-        }
-        assert_eq!(rt; block.wish(), Wish::Put(0, Stop(0)));
-        Ok(())
-    }
-
-    fn needs_send<T: Send>(_block: &T) {}
-
-    #[test]
-    fn plays_one_value(rt: HostRuntime) -> Result<(), Fail> {
-        let mut block = VectorReducer::new(rt.alloc());
-        needs_send(&block);
-        assert_eq!(rt; (block.ins(), block.outs()), (2, 2));
-        assert_eq!(rt; block.wish(), Wish::Take(0));
-        block.take(0, Item(7))?;
-        assert_eq!(rt; block.wish(), Wish::Take(1));
-        block.take(1, Item(5))?;
-        block.take(0, Stop(1))?;
-        block.take(1, Stop(1))?;
-        assert_eq!(rt; block.wish(), Wish::Put(0, Item(7)));
-        block.did_put();
-        assert_eq!(rt; block.wish(), Wish::Put(1, Item(5)));
-        Ok(())
-    }
 }

@@ -39,36 +39,3 @@ pub fn stream_text(alloc: Global, s: &Stream) -> Result<Name, AllocError>
     }
     Ok(text)
 }
-
-#[cfg(test)]
-mod tests {
-    use super::stream_text;
-    use crate::Stream;
-    use crate::Token::{Done, Empty, Item, Stop};
-    use std::alloc::AllocError;
-
-    #[test]
-    fn tokens_are_joined_by_a_space(rt: HostRuntime) -> Result<(), AllocError> {
-        let mut s = Stream::new(rt.alloc());
-        assert!(rt; stream_text(rt.alloc(), &s)?.as_bytes().is_empty());
-        for t in [Item(6), Empty, Item(u64::MAX), Stop(0), Stop(255), Done] {
-            s.push(t)?;
-        }
-        assert_eq!(rt; s.len(), 6);
-        assert_eq!(rt; s.get(1), Empty);
-        let text = stream_text(rt.alloc(), &s)?;
-        assert_eq!(rt;
-            text.as_bytes(),
-            b"6 N 18446744073709551615 S0 S255 D".as_slice()
-        );
-        Ok(())
-    }
-
-    #[test]
-    fn a_stream_gives_its_tokens_back(rt: HostRuntime) -> Result<(), AllocError> {
-        let s = Stream::from_vec(Vec::from_slice(rt.alloc(), &[Item(1), Done])?);
-        assert_eq!(rt; s.as_slice(), [Item(1), Done].as_slice());
-        assert_eq!(rt; s.into_vec().as_slice(), [Item(1), Done].as_slice());
-        Ok(())
-    }
-}

@@ -10,7 +10,7 @@ use Rattle.stream_tokens.specs.declared.Token.{Token}
 use Rattle.stream_tokens.specs.declared.Token.TheVariants.{Item}
 use Rattle.stream_tokens.specs.Nest.{IsStream}
 use Rattle.stream_tokens.specs.Flat.{flat}
-use Rattle.block_core.specs.Change.{on_item, referenced_value as value_in}
+use Rattle.block_core.specs.Change.{on_item, referenced_value}
 use Rattle.block_core.specs.Kind.{ArrayKind}
 use Rattle.block_core.proofs.Given.{Gives, array-gives}
 use Rattle.stream_model.specs.declared.labels.Attr.TheVariants.{Rank, FactorValue}
@@ -60,9 +60,9 @@ module _ (t : TermData) (f : ℕ) (fit : AllFit t) (inside : f < length t.access
         ap (λ (vs : List ℕ). length vs) values_there ∙ length-map (stored_prefixes tensor (length place)) (value_at tensor) in
         omega (arith, r, n)
 
-    value_there : value_in (values_of tensor) (rank_at t f p) ≡ factor_at t f p
+    value_there : referenced_value (values_of tensor) (rank_at t f p) ≡ factor_at t f p
     value_there =
-        ap (λ (vs : List ℕ). value_in vs (rank_at t f p)) values_there
+        ap (λ (vs : List ℕ). referenced_value vs (rank_at t f p)) values_there
         ∙ at-rank (value_at tensor) 0 tensor place place_within place_stored
 
 -- after the last loop the values of access f stand at its ranks
@@ -92,11 +92,11 @@ array-law t f r fit few is_r inside =
     stored : List ℕ
     stored = values_of (access_at t.accesses f).tensor
 
-    values_are : map (on_item (value_in stored)) (flat (λ p. Item (rank_at t f p)) (prefixes t m))
+    values_are : map (on_item (referenced_value stored)) (flat (λ p. Item (rank_at t f p)) (prefixes t m))
         ≡ product_stream t m (final t m) (FactorValue f)
     values_are =
-        changed (value_in stored) (rank_at t f) (prefixes t m)
-        ∙ flat-ext (IsPrefix t m) (λ p. Item (value_in stored (rank_at t f p))) (λ p. Item (factor_at t f p))
+        changed (referenced_value stored) (rank_at t f) (prefixes t m)
+        ∙ flat-ext (IsPrefix t m) (λ p. Item (referenced_value stored (rank_at t f p))) (λ p. Item (factor_at t f p))
         (λ p h. ap Item (value_there t f fit inside p h))
         (prefixes t m) (each-prefix t m)
         ∙ sym (final-stream t m (FactorValue f))

@@ -4,7 +4,7 @@ use Rattle.std.proofs.lemmas.Option.{slice_get_read}
 use Rattle.std.proofs.lemmas.Result.{IfOk-weaker}
 use Rattle.any_block.specs.contracts.blocks.AnyBlockBlockStep.TheImpl.{ghosts}
 use Rattle.graph.specs.Writers.{first_block, writes_level}
-use Rattle.any_block.proofs.Writers.{level_ended}
+use Rattle.any_block.proofs.Writers.{level-ended}
 use Rattle.any_block.proofs.gathering.level_arrays.Goals as goal
 
 pub returns-in-Some-clause-segs : goal.returns-in-Some-clause-segs
@@ -15,7 +15,7 @@ returns-in-Some-clause-segs c =
     let at : slice_get c.args.blocks.now (first_block (writes_level c.args.level) c.args.g.now) ≡ Some c.in-Some.block.now =
     subst (λ (n : ℕ). slice_get c.args.blocks.now n ≡ Some c.in-Some.block.now) c.level_writer.ensures read in
     IfOk-weaker c.kept_level.result _ _ (λ arrays e storages h.
-    let z = level_ended ghosts.kind ghosts.stands storages c.args.g.now c.args.blocks.now h c.args.level c.in-Some.block.now at in
+    let z = level-ended ghosts.kind ghosts.stands storages c.args.g.now c.args.blocks.now h c.args.level c.in-Some.block.now at in
     e c.args.level _ z.same_kind z.through) c.kept_level.ensures.segs
 
 pub returns-in-Some-clause-crds : goal.returns-in-Some-clause-crds
@@ -26,5 +26,5 @@ returns-in-Some-clause-crds c =
     let at : slice_get c.args.blocks.now (first_block (writes_level c.args.level) c.args.g.now) ≡ Some c.in-Some.block.now =
     subst (λ (n : ℕ). slice_get c.args.blocks.now n ≡ Some c.in-Some.block.now) c.level_writer.ensures read in
     IfOk-weaker c.kept_level.result _ _ (λ arrays e storages h.
-    let z = level_ended ghosts.kind ghosts.stands storages c.args.g.now c.args.blocks.now h c.args.level c.in-Some.block.now at in
+    let z = level-ended ghosts.kind ghosts.stands storages c.args.g.now c.args.blocks.now h c.args.level c.in-Some.block.now at in
     e c.args.level _ z.same_kind z.through) c.kept_level.ensures.crds

@@ -1,10 +1,31 @@
 use Rattle.any_block.proofs.blocks.AnyBlockBlockStep.did_put.Goals as goal
 
+pub did_put-requires : goal.did_put-requires
+did_put-requires c = rw c.in-Root.is at c.requires
+
+pub did_put-requires-in-Scan : goal.did_put-requires-in-Scan
+did_put-requires-in-Scan c = rw c.in-Scan.is at c.requires
+
+pub did_put-requires-in-Repeat : goal.did_put-requires-in-Repeat
+did_put-requires-in-Repeat c = rw c.in-Repeat.is at c.requires
+
+pub did_put-requires-in-Cast : goal.did_put-requires-in-Cast
+did_put-requires-in-Cast c = rw c.in-Cast.is at c.requires
+
 pub did_put-requires-in-Intersect : goal.did_put-requires-in-Intersect
 did_put-requires-in-Intersect c = rw c.in-Intersect.is at c.requires
 
 pub did_put-requires-in-Union : goal.did_put-requires-in-Union
 did_put-requires-in-Union c = rw c.in-Union.is at c.requires
+
+pub did_put-requires-in-Array : goal.did_put-requires-in-Array
+did_put-requires-in-Array c = rw c.in-Array.is at c.requires
+
+pub did_put-requires-in-Alu : goal.did_put-requires-in-Alu
+did_put-requires-in-Alu c = rw c.in-Alu.is at c.requires
+
+pub did_put-requires-in-Const : goal.did_put-requires-in-Const
+did_put-requires-in-Const c = rw c.in-Const.is at c.requires
 
 pub did_put-requires-in-SumScalar : goal.did_put-requires-in-SumScalar
 did_put-requires-in-SumScalar c = rw c.in-SumScalar.is at c.requires
@@ -14,6 +35,15 @@ did_put-requires-in-SumVector c = rw c.in-SumVector.is at c.requires
 
 pub did_put-requires-in-SumMatrix : goal.did_put-requires-in-SumMatrix
 did_put-requires-in-SumMatrix c = rw c.in-SumMatrix.is at c.requires
+
+pub did_put-requires-in-DropValue : goal.did_put-requires-in-DropValue
+did_put-requires-in-DropValue c = rw c.in-DropValue.is at c.requires
+
+pub did_put-requires-in-DropFiber : goal.did_put-requires-in-DropFiber
+did_put-requires-in-DropFiber c = rw c.in-DropFiber.is at c.requires
+
+pub did_put-requires-in-Fill : goal.did_put-requires-in-Fill
+did_put-requires-in-Fill c = rw c.in-Fill.is at c.requires
 
 pub returns-in-Root-clause-moved : goal.returns-in-Root-clause-moved
 returns-in-Root-clause-moved c = rw c.in-Root.is c.did_put.ensures.moved

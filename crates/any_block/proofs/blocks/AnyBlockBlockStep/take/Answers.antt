@@ -1,12 +1,31 @@
-use Rattle.alu_array.proofs.InRange.{may_take_below}
-use Rattle.scanner.proofs.InRange.{may_take_scanned}
 use Rattle.any_block.proofs.blocks.AnyBlockBlockStep.take.Goals as goal
+
+pub take-requires-in-Scan : goal.take-requires-in-Scan
+take-requires-in-Scan c = rw c.in-Scan.is at c.requires
+
+pub take-requires-in-Repeat : goal.take-requires-in-Repeat
+take-requires-in-Repeat c = rw c.in-Repeat.is at c.requires
+
+pub take-requires-in-Cast : goal.take-requires-in-Cast
+take-requires-in-Cast c = rw c.in-Cast.is at c.requires
+
+pub take-requires-in-Drain : goal.take-requires-in-Drain
+take-requires-in-Drain c = rw c.in-Drain.is at c.requires
 
 pub take-requires-in-Intersect : goal.take-requires-in-Intersect
 take-requires-in-Intersect c = rw c.in-Intersect.is at c.requires
 
 pub take-requires-in-Union : goal.take-requires-in-Union
 take-requires-in-Union c = rw c.in-Union.is at c.requires
+
+pub take-requires-in-Array : goal.take-requires-in-Array
+take-requires-in-Array c = rw c.in-Array.is at c.requires
+
+pub take-requires-in-Alu : goal.take-requires-in-Alu
+take-requires-in-Alu c = rw c.in-Alu.is at c.requires
+
+pub take-requires-in-Const : goal.take-requires-in-Const
+take-requires-in-Const c = rw c.in-Const.is at c.requires
 
 pub take-requires-in-SumScalar : goal.take-requires-in-SumScalar
 take-requires-in-SumScalar c = rw c.in-SumScalar.is at c.requires
@@ -17,11 +36,20 @@ take-requires-in-SumVector c = rw c.in-SumVector.is at c.requires
 pub take-requires-in-SumMatrix : goal.take-requires-in-SumMatrix
 take-requires-in-SumMatrix c = rw c.in-SumMatrix.is at c.requires
 
-pub take-requires-in-Scan : goal.take-requires-in-Scan
-take-requires-in-Scan c = may_take_scanned _ _ _ _ (rw c.in-Scan.is at c.requires)
+pub take-requires-in-DropValue : goal.take-requires-in-DropValue
+take-requires-in-DropValue c = rw c.in-DropValue.is at c.requires
 
-pub take-requires-in-Array : goal.take-requires-in-Array
-take-requires-in-Array c = may_take_below _ _ _ _ (rw c.in-Array.is at c.requires)
+pub take-requires-in-DropFiber : goal.take-requires-in-DropFiber
+take-requires-in-DropFiber c = rw c.in-DropFiber.is at c.requires
+
+pub take-requires-in-Fill : goal.take-requires-in-Fill
+take-requires-in-Fill c = rw c.in-Fill.is at c.requires
+
+pub take-requires-in-WriteLevel : goal.take-requires-in-WriteLevel
+take-requires-in-WriteLevel c = rw c.in-WriteLevel.is at c.requires
+
+pub take-requires-in-WriteValue : goal.take-requires-in-WriteValue
+take-requires-in-WriteValue c = rw c.in-WriteValue.is at c.requires
 
 pub returns-in-Scan-clause-moved : goal.returns-in-Scan-clause-moved
 returns-in-Scan-clause-moved c = rw c.in-Scan.is c.take-in-Scan.ensures.moved

@@ -1,5 +1,5 @@
-use Rattle.level_writer.proofs.LevelRuns.{level_put}
+use Rattle.level_writer.proofs.LevelRuns.{level-put}
 use Rattle.level_writer.proofs.level.LevelWriterBlockStep.did_put.Goals as goal
 
 pub returns-clause-moved : goal.returns-clause-moved
-returns-clause-moved c = λ s n port t h at. level_put _ _ _ _ _ s n port t at h
+returns-clause-moved c = λ s n port t h at. level-put _ _ _ _ _ s n port t at h

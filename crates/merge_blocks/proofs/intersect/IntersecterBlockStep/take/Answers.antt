@@ -1,6 +1,6 @@
 use Rattle.block_core.specs.Kind.{IntersectKind}
-use Rattle.merge_blocks.proofs.MergeStands.{sits_take}
+use Rattle.merge_blocks.proofs.MergeStands.{sits-take}
 use Rattle.merge_blocks.proofs.intersect.IntersecterBlockStep.take.Goals as goal
 
 pub returns-clause-moved : goal.returns-clause-moved
-returns-clause-moved c = λ s n h at. sits_take IntersectKind _ _ s n _ _ c.took.ensures.steps c.took.ensures.left c.took.ensures.right at h
+returns-clause-moved c = λ s n h at. sits-take IntersectKind _ _ s n _ _ c.took.ensures.steps c.took.ensures.left c.took.ensures.right at h

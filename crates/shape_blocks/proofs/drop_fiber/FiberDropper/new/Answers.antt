@@ -1,5 +1,5 @@
-use Rattle.shape_blocks.proofs.DropFiberRuns.{drop_fiber_starts}
+use Rattle.shape_blocks.proofs.DropFiberRuns.{drop-fiber-starts}
 use Rattle.shape_blocks.proofs.drop_fiber.FiberDropper.new.Goals as goal
 
 pub returns-clause-starts : goal.returns-clause-starts
-returns-clause-starts c = drop_fiber_starts
+returns-clause-starts c = drop-fiber-starts

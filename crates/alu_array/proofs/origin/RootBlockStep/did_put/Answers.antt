@@ -1,6 +1,0 @@
-use Rattle.block_core.proofs.Standing.{stands-put}
-use Rattle.alu_array.specs.RootSteps.{root_steps}
-use Rattle.alu_array.proofs.origin.RootBlockStep.did_put.Goals as goal
-
-pub returns-clause-moved : goal.returns-clause-moved
-returns-clause-moved c = λ s n port t h at. stands-put root_steps _ _ _ s n port t c.put-self.ensures at h

@@ -1,5 +1,0 @@
-use Rattle.level_writer.proofs.WriterRuns.{values_start}
-use Rattle.level_writer.proofs.values.ValueWriter.new.Goals as goal
-
-pub returns-clause-starts : goal.returns-clause-starts
-returns-clause-starts c = rw c.new.ensures values_start

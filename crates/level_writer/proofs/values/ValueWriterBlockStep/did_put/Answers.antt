@@ -1,5 +1,0 @@
-use Rattle.level_writer.proofs.WriterRuns.{values_put}
-use Rattle.level_writer.proofs.values.ValueWriterBlockStep.did_put.Goals as goal
-
-pub returns-clause-moved : goal.returns-clause-moved
-returns-clause-moved c = λ s n port t h at. values_put _ _ s n port t at h
