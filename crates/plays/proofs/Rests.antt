@@ -8,9 +8,10 @@ use Rattle.std.proofs.lemmas.List.{append_cancel_left}
 use Rattle.std.proofs.Math.Logic.{∥∥₁_elim, ∥∥₁_map}
 use Rattle.std.specs.Coded.{le_prop}
 use Rattle.stream_tokens.specs.declared.Token.{Token}
+use Rattle.block_core.specs.declared.BlockStep.{Ghosts}
 use Rattle.block_core.specs.Move.{Move, Taking, Putting, takes, puts}
 use Rattle.block_core.specs.Ports.{Streams}
-use Rattle.block_core.specs.Kind.{Kind, moves}
+use Rattle.block_core.specs.Kind.{moves}
 use Rattle.block_core.specs.Bursts.{MayTakeNext, MayPutNext, MayPour, Poured}
 use Rattle.block_core.proofs.Pouring.{at-place, drop-twice}
 use Rattle.plays.specs.Net.{Net, Rooms, State, Waits, can, raise, got, sum_below, play, has_room}
@@ -302,21 +303,21 @@ ends_same e f qs told h q t =
     ∙ ap (λ z. record { queues = qs; told = told; moves = f.moves; block = e.block; ins = z; outs = f.outs }) h.ins
     ∙ ap (λ z. record { queues = qs; told = told; moves = f.moves; block = e.block; ins = e.ins; outs = z }) h.outs
 
-pub burst_at : {B : Type 0} (kind : B → Kind) (stands : B → Streams → ℕ → Type 0) (blocks : List B) (e f : BlockEnds) (x y : B) (went : Bool)
-    (qs : List Queued) (told : Tapped) → slice_get blocks e.block ≡ Some x → kind y ≡ kind x
-    → SameEnds e f → qs ≡ f.queues → told ≡ f.told → Poured kind stands FedAt MadeAt x e y f went
-    → BurstAt kind stands blocks e (set blocks e.block y) (record { queues = qs; told = told; moves = f.moves; block = e.block; ins = e.ins; outs = e.outs }) went
-burst_at kind stands blocks e f x y went qs told at same h q t poured z az =
+pub burst_at : {B : Type 0} (step : Ghosts B) (blocks : List B) (e f : BlockEnds) (x y : B) (went : Bool)
+    (qs : List Queued) (told : Tapped) → slice_get blocks e.block ≡ Some x → step.kind y ≡ step.kind x
+    → SameEnds e f → qs ≡ f.queues → told ≡ f.told → Poured step.kind step.stands FedAt MadeAt x e y f went
+    → BurstAt step blocks e (set blocks e.block y) (record { queues = qs; told = told; moves = f.moves; block = e.block; ins = e.ins; outs = e.outs }) went
+burst_at step blocks e f x y went qs told at same h q t poured z az =
     let xz : x ≡ z = same_some x z (sym at ∙ az) in
     let g : BlockEnds = record { queues = qs; told = told; moves = f.moves; block = e.block; ins = e.ins; outs = e.outs } in
-    let there : Poured kind stands FedAt MadeAt x e y g went = subst (λ w. Poured kind stands FedAt MadeAt x e y w went) (ends_same e f qs told h q t) poured in
-    (y, refl, same ∙ ap kind xz, subst (λ w. Poured kind stands FedAt MadeAt w e y g went) xz there)
+    let there : Poured step.kind step.stands FedAt MadeAt x e y g went = subst (λ w. Poured step.kind step.stands FedAt MadeAt x e y w went) (ends_same e f qs told h q t) poured in
+    (y, refl, same ∙ ap step.kind xz, subst (λ w. Poured step.kind step.stands FedAt MadeAt w e y g went) xz there)
 
-pub may_burst : {B : Type 0} (kind : B → Kind) (stands : B → Streams → ℕ → Type 0) (blocks : List B) (e : BlockEnds) (x : B) → slice_get blocks e.block ≡ Some x
-    → MayBurst kind stands blocks e → MayPour kind stands FedAt x e
-may_burst kind stands blocks e x at may = ∥∥₁_map may (λ r.
+pub may_burst : {B : Type 0} (step : Ghosts B) (blocks : List B) (e : BlockEnds) (x : B) → slice_get blocks e.block ≡ Some x
+    → MayBurst step blocks e → MayPour step.kind step.stands FedAt x e
+may_burst step blocks e x at may = ∥∥₁_map may (λ r.
     let same : r.0 ≡ x = same_some r.0 x (sym r.1 ∙ at) in
-    subst (λ z. (s : Streams) × (n : ℕ) × stands z s n × FedAt e (drop n (moves (kind z) s))) same (r.2, r.3, r.4, r.5))
+    subst (λ z. (s : Streams) × (n : ℕ) × step.stands z s n × FedAt e (drop n (moves (step.kind z) s))) same (r.2, r.3, r.4, r.5))
 
 pub same_closed : (e f : BlockEnds) (qs : List Queued) (told : Tapped) → SameEnds e f → qs ≡ f.queues → told ≡ f.told
     → SameEnds e (record { queues = qs; told = told; moves = f.moves; block = e.block; ins = e.ins; outs = e.outs })

@@ -10,6 +10,10 @@ sum_same zero f g same = refl
 sum_same (suc n) f g same =
     omega (arith, same n (omega arith), sum_same n f g (λ x l. same x (omega (arith, l))))
 
+pub sum_no_more : (n : ℕ) (f g : ℕ → ℕ) → ((x : ℕ) → f x ≤ g x) → sum_below n f ≤ sum_below n g
+sum_no_more zero f g h = omega arith
+sum_no_more (suc n) f g h = let a = sum_no_more n f g h in let b = h n in omega (arith, a, b)
+
 -- one more at one number alone
 pub sum_one_more : (n c : ℕ) (f g : ℕ → ℕ) → c < n → g c ≡ suc (f c) → ((x : ℕ) → x < n → (x ≡ c → ⊥) → g x ≡ f x)
     → sum_below n g ≡ suc (sum_below n f)

@@ -1,5 +1,5 @@
 -- What a tap is told.
-use Rattle.std.specs.Prelude.{◌≡◌, ◌<◌, ◌≤◌, ℕ, ◌-◌, Bool, true, false, not, nat_lt, List, [], ◌∷◌, ◌++◌, length, take, drop, set, slice_get, get_or, Some, None, refl}
+use Rattle.std.specs.Prelude.{◌≡◌, ◌<◌, ◌≤◌, ℕ, ◌-◌, ◌||◌, Bool, true, false, not, nat_lt, List, [], ◌∷◌, ◌++◌, length, take, drop, set, slice_get, get_or, Some, None, refl}
 use Rattle.std.proofs.Common.{arith, sym, ◌∙◌, ap, subst, append-nil, append_assoc, length-append, get_or-set_same, get_or-set_other, inl, inr}
 use Rattle.std.proofs.lemmas.Bool.{cases_eq}
 use Rattle.std.proofs.lemmas.Bool.Decides.{nat_tests}
@@ -88,6 +88,10 @@ lists_put n c t told told' e lists = subst (HasLists n) (sym e) (there told list
 pub lists_fewer : (n m : ℕ) (told : Tapped) → m ≤ n → HasLists n told → HasLists m told
 lists_fewer n m None l h = tt
 lists_fewer n m (Some ts) l h = omega (arith, l, h)
+
+pub neither : (a b : Bool) → a || b ≡ false → a ≡ false
+neither true b e = absurd (cc)
+neither false b e = refl
 
 pub not_full : (b : Bool) → not b ≡ false → b ≡ true
 not_full true e = refl

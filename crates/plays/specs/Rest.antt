@@ -1,9 +1,10 @@
 -- All of a machine but its blocks, as one block's burst sees it.
 use Rattle.std.specs.Prelude.{◌≡◌, ◌<◌, ℕ, ◌+◌, ◌-◌, ◌^◌, min, List, [], ◌∷◌, ◌++◌, Bool, length, take, drop, set, slice_get, get_or, Option, Some, None}
 use Rattle.stream_tokens.specs.declared.Token.{Token}
+use Rattle.block_core.specs.declared.BlockStep.{Ghosts}
 use Rattle.block_core.specs.Move.{Move, Taking, Putting}
 use Rattle.block_core.specs.Ports.{Streams}
-use Rattle.block_core.specs.Kind.{Kind, moves}
+use Rattle.block_core.specs.Kind.{moves}
 use Rattle.block_core.specs.Bursts.{Poured, relayed}
 use Rattle.plays.specs.Net.{Net, Rooms, State, Wired, WithinBounds, Waits, PlaysTo, sum_below}
 use Rattle.plays.specs.Held.{Queued}
@@ -32,7 +33,7 @@ waits_at e p = (in_queue e p).tokens
 abbrev pub first_at : BlockEnds → ℕ → Option Token
 first_at e p = slice_get (waits_at e p) 0
 
--- All but the blocks stands at a state of a net.
+-- All but the blocks step.stands at a state of a net.
 pub record RestAt (net : Net) (rooms : Rooms) (s : State) (e : BlockEnds) : Type 0 where
   pub wired : Wired net
   pub kept : WithinBounds net rooms s
@@ -55,7 +56,7 @@ pub record AfterMoves (net : Net) (rooms : Rooms) (s : State) (b k : ℕ) (t : S
   pub here : t b ≡ s b + k
   pub there : (d : ℕ) → (d ≡ b → ⊥) → t d ≡ s d
 
--- Wherever it stood with these moves before the block, it stands where they lead.
+-- Wherever it stood with these moves before the block, it step.stands where they lead.
 abbrev pub Advances : BlockEnds → List Move → BlockEnds → Type 0
 Advances e ms e' =
     (net : Net) (rooms : Rooms) (s : State) (rest : List Move) → RestAt net rooms s e → drop (s e.block) (net.moves e.block) ≡ ms ++ rest
@@ -79,13 +80,13 @@ pub record MadeAt (e : BlockEnds) (ms : List Move) (e' : BlockEnds) : Type 0 whe
   pub advances : Advances e ms e'
 
 -- One of many blocks made some moves.
-abbrev pub BurstAt : {B : Type 0} → (B → Kind) → (B → Streams → ℕ → Type 0) → List B → BlockEnds → List B → BlockEnds → Bool → Type 0
-BurstAt kind stands blocks e blocks' e' went =
-    (x : _) → slice_get blocks e.block ≡ Some x → (y : _) × (blocks' ≡ set blocks e.block y) × (kind y ≡ kind x) × Poured kind stands FedAt MadeAt x e y e' went
+abbrev pub BurstAt : {B : Type 0} → Ghosts B → List B → BlockEnds → List B → BlockEnds → Bool → Type 0
+BurstAt step blocks e blocks' e' went =
+    (x : _) → slice_get blocks e.block ≡ Some x → (y : _) × (blocks' ≡ set blocks e.block y) × (step.kind y ≡ step.kind x) × Poured step.kind step.stands FedAt MadeAt x e y e' went
 
-abbrev pub MayBurst : {B : Type 0} → (B → Kind) → (B → Streams → ℕ → Type 0) → List B → BlockEnds → Type 0
-MayBurst kind stands blocks e =
-    ∥ ((x : _) × (slice_get blocks e.block ≡ Some x) × (s : Streams) × (n : ℕ) × stands x s n × FedAt e (drop n (moves (kind x) s))) ∥₁
+abbrev pub MayBurst : {B : Type 0} → Ghosts B → List B → BlockEnds → Type 0
+MayBurst step blocks e =
+    ∥ ((x : _) × (slice_get blocks e.block ≡ Some x) × (s : Streams) × (n : ℕ) × step.stands x s n × FedAt e (drop n (moves (step.kind x) s))) ∥₁
 
 -- the block next takes from one port and puts this token on another
 abbrev pub MayRelayOne : BlockEnds → ℕ → ℕ → Token → Type 0

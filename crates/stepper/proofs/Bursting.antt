@@ -6,9 +6,10 @@ use Rattle.std.proofs.lemmas.List.{length-set, length-take, take-append-drop}
 use Rattle.std.specs.Coded.{le_prop}
 use Rattle.std.proofs.Math.Logic.{∥∥₁_elim, ∥∥₁_map}
 use Rattle.sam_model.specs.Children.{Ranked}
+use Rattle.block_core.specs.declared.BlockStep.{Ghosts}
 use Rattle.block_core.specs.Move.{Move, Taking, Putting}
 use Rattle.block_core.specs.Ports.{Streams}
-use Rattle.block_core.specs.Kind.{Kind, moves}
+use Rattle.block_core.specs.Kind.{moves}
 use Rattle.graph.specs.declared.graphs.Graph.{Graph}
 use Rattle.graph.specs.Meaning.{meaning}
 use Rattle.graph.specs.Wiring.{block, channel, into}
@@ -51,9 +52,9 @@ sum_more (suc n) b k s t l here there = elim (cases_eq n b) [
     sums zero h = refl
     sums (suc n) h = let a = sums n (λ d l. h d (omega (arith, l))) in let b = h n (omega arith) in omega (arith, a, b)
 
-module _ {B : Type 0} (kind : B → Kind) (stands : B → Streams → ℕ → Type 0) (storages : List Ranked) (g : Graph) (caps : List (Option ℕ)) where
+module _ {B : Type 0} (step : Ghosts B) (storages : List Ranked) (g : Graph) (caps : List (Option ℕ)) where
   pub rest_of : (s : State) (m : Held B) (told : Tapped) (b : ℕ)
-      → AtState kind stands storages g caps s m → HasLists (length m.queues) told → RestAt (net_of storages g) (rooms_of caps) s (block_ends m told b)
+      → AtState step storages g caps s m → HasLists (length m.queues) told → RestAt (net_of storages g) (rooms_of caps) s (block_ends m told b)
   rest_of s m told b h lists = record {
     wired = wired storages g h.well_formed h.consistent;
     kept = h.kept;
@@ -87,13 +88,13 @@ module _ {B : Type 0} (kind : B → Kind) (stands : B → Streams → ℕ → Ty
   }
 
   -- Where a burst of one block leads, the machine stands.
-  pub burst_at_state : ((x : B) (s : Streams) (n : ℕ) → stands x s n → n ≤ length (moves (kind x) s))
+  pub burst_at_state : ((x : B) (s : Streams) (n : ℕ) → step.stands x s n → n ≤ length (moves (step.kind x) s))
       → (s : State) (m : Held B) (told : Tapped) (b : ℕ) (went : Bool) (bs : List B) (qs : List Queued) (n : ℕ) (told' : Tapped)
       → b < length m.blocks → HasLists (length m.queues) told
-      → BurstAt kind stands m.blocks (block_ends m told b) bs (record { queues = qs; told = told'; moves = n; block = b; ins = row_of m.routes.ins b; outs = row_of m.routes.outs b }) went
-      → AtState kind stands storages g caps s m
+      → BurstAt step m.blocks (block_ends m told b) bs (record { queues = qs; told = told'; moves = n; block = b; ins = row_of m.routes.ins b; outs = row_of m.routes.outs b }) went
+      → AtState step storages g caps s m
       → (t : State) × PlaysTo (net_of storages g) (rooms_of caps) s t
-      × AtState kind stands storages g caps t (record { blocks = bs; queues = qs; moves = n; routes = m.routes }) × Grew (net_of storages g) s t told told'
+      × AtState step storages g caps t (record { blocks = bs; queues = qs; moves = n; routes = m.routes }) × Grew (net_of storages g) s t told told'
       × (sum_below (length g.blocks) s ≤ sum_below (length g.blocks) t) × (went ≡ true → sum_below (length g.blocks) s < sum_below (length g.blocks) t)
   burst_at_state within s m told b went bs qs n told' lb lists burst h =
       let net : Net = net_of storages g in
@@ -101,9 +102,9 @@ module _ {B : Type 0} (kind : B → Kind) (stands : B → Streams → ℕ → Ty
       let own = h.standing in
       let x = some_in m.blocks b lb in
       let y = burst x.0 x.1 in
-      let kinds : moves (kind x.0) (whole_inputs storages g b) ≡ block_moves storages g b =
+      let kinds : moves (step.kind x.0) (whole_inputs storages g b) ≡ block_moves storages g b =
       ap (λ k. moves k (whole_inputs storages g b)) (own.kinds b x.0 x.1) in
-      let ms : List Move = drop (s b) (moves (kind x.0) (whole_inputs storages g b)) in
+      let ms : List Move = drop (s b) (moves (step.kind x.0) (whole_inputs storages g b)) in
       let same : ms ≡ drop (s b) (block_moves storages g b) = ap (drop (s b)) kinds in
       let r = rest_of s m told b h lists in
       let p = y.3 (whole_inputs storages g b) (s b) (own.placed b x.0 x.1) (net, rooms, s, r, sym same) in
@@ -111,10 +112,10 @@ module _ {B : Type 0} (kind : B → Kind) (stands : B → Streams → ℕ → Ty
       let made = p.3 in
       let a = made.advances net rooms s (drop k ms) r (sym same ∙ sym (take-append-drop k ms)) in
       let t : State = a.0 in
-      let ends : s b + k ≤ length (moves (kind x.0) (whole_inputs storages g b)) =
+      let ends : s b + k ≤ length (moves (step.kind x.0) (whole_inputs storages g b)) =
       subst (λ z. s b + k ≤ length (moves z (whole_inputs storages g b))) y.2 (within y.0 (whole_inputs storages g b) (s b + k) p.2) in
       let long : length (take k ms) ≡ k =
-      let i = length-take k ms in let j = length-drop (s b) (moves (kind x.0) (whole_inputs storages g b)) in omega (arith, i, j, ends) in
+      let i = length-take k ms in let j = length-drop (s b) (moves (step.kind x.0) (whole_inputs storages g b)) in omega (arith, i, j, ends) in
       let here : t b ≡ s b + k = let i = a.1.here in omega (arith, i, long) in
       let l : b < length g.blocks = let i = own.number in omega (arith, lb, i) in
       let sums = sum_more (length g.blocks) b k s t l here a.1.there in
@@ -132,7 +133,7 @@ module _ {B : Type 0} (kind : B → Kind) (stands : B → Streams → ℕ → Ty
                   | inl at ↦
                       let i : slice_get (set m.blocks b y.0) b ≡ Some z = subst (λ w. slice_get (set m.blocks b y.0) w ≡ Some z) at old in
                       let yz : y.0 ≡ z = same_some y.0 z (sym (get_set_here m.blocks b y.0 lb) ∙ i) in
-                      ap kind (sym yz) ∙ y.2 ∙ own.kinds b x.0 x.1 ∙ ap (λ w. meaning storages (block g w).kind) (sym at)
+                      ap step.kind (sym yz) ∙ y.2 ∙ own.kinds b x.0 x.1 ∙ ap (λ w. meaning storages (block g w).kind) (sym at)
                   | inr other ↦ own.kinds d z (sym (get_set_there m.blocks b d y.0 other) ∙ old)
                 ];
             placed = λ d z f.
@@ -141,10 +142,10 @@ module _ {B : Type 0} (kind : B → Kind) (stands : B → Streams → ℕ → Ty
                   | inl at ↦
                       let i : slice_get (set m.blocks b y.0) b ≡ Some z = subst (λ w. slice_get (set m.blocks b y.0) w ≡ Some z) at old in
                       let yz : y.0 ≡ z = same_some y.0 z (sym (get_set_here m.blocks b y.0 lb) ∙ i) in
-                      let st : stands z (whole_inputs storages g b) (t b) =
-                      subst (stands z (whole_inputs storages g b)) (sym here) (subst (λ w. stands w (whole_inputs storages g b) (s b + k)) yz p.2) in
-                      subst (λ w. stands z (whole_inputs storages g w) (t w)) (sym at) st
-                  | inr other ↦ subst (stands z (whole_inputs storages g d)) (sym (a.1.there d other)) (own.placed d z (sym (get_set_there m.blocks b d y.0 other) ∙ old))
+                      let st : step.stands z (whole_inputs storages g b) (t b) =
+                      subst (step.stands z (whole_inputs storages g b)) (sym here) (subst (λ w. step.stands w (whole_inputs storages g b) (s b + k)) yz p.2) in
+                      subst (λ w. step.stands z (whole_inputs storages g w) (t w)) (sym at) st
+                  | inr other ↦ subst (step.stands z (whole_inputs storages g d)) (sym (a.1.there d other)) (own.placed d z (sym (get_set_there m.blocks b d y.0 other) ∙ old))
                 ];
           };
           kept = q.kept;
@@ -158,57 +159,57 @@ module _ {B : Type 0} (kind : B → Kind) (stands : B → Streams → ℕ → Ty
         λ z. let i = p.1 z in omega (arith, sums, i),
       )
 
-module _ {B : Type 0} (kind : B → Kind) (stands : B → Streams → ℕ → Type 0) where
-  pub burst_onwards : ((x : B) (s : Streams) (n : ℕ) → stands x s n → n ≤ length (moves (kind x) s))
+module _ {B : Type 0} (step : Ghosts B) where
+  pub burst_onwards : ((x : B) (s : Streams) (n : ℕ) → step.stands x s n → n ≤ length (moves (step.kind x) s))
       → (m : Held B) (told : Tapped) (b : ℕ) (went : Bool) (bs : List B) (qs : List Queued) (n : ℕ) (told' : Tapped)
       → b < length m.blocks → HasLists (length m.queues) told
-      → BurstAt kind stands m.blocks (block_ends m told b) bs (record { queues = qs; told = told'; moves = n; block = b; ins = row_of m.routes.ins b; outs = row_of m.routes.outs b }) went
-      → OnwardsBy kind stands m told (record { blocks = bs; queues = qs; moves = n; routes = m.routes }) told' went
+      → BurstAt step m.blocks (block_ends m told b) bs (record { queues = qs; told = told'; moves = n; block = b; ins = row_of m.routes.ins b; outs = row_of m.routes.outs b }) went
+      → OnwardsBy step m told (record { blocks = bs; queues = qs; moves = n; routes = m.routes }) told' went
   burst_onwards within m told b went bs qs n told' lb lists burst storages g caps s h =
-      burst_at_state kind stands storages g caps within s m told b went bs qs n told' lb lists burst h
+      burst_at_state step storages g caps within s m told b went bs qs n told' lb lists burst h
 
   pub may_of : (m : Held B) (told : Tapped) (b : ℕ) → b < length m.blocks → HasLists (length m.queues) told
-      → ∥ (Somewhere kind stands m) ∥₁ → MayBurst kind stands m.blocks (block_ends m told b)
+      → ∥ (Somewhere step m) ∥₁ → MayBurst step m.blocks (block_ends m told b)
   may_of m told b l lists sits = ∥∥₁_map sits (λ r.
       let h = r.4 in
       let x = some_in m.blocks b l in
-      let kinds : moves (kind x.0) (whole_inputs r.0 r.1 b) ≡ block_moves r.0 r.1 b = ap (λ k. moves k (whole_inputs r.0 r.1 b)) (h.standing.kinds b x.0 x.1) in (
+      let kinds : moves (step.kind x.0) (whole_inputs r.0 r.1 b) ≡ block_moves r.0 r.1 b = ap (λ k. moves k (whole_inputs r.0 r.1 b)) (h.standing.kinds b x.0 x.1) in (
         x.0,
         x.1,
         whole_inputs r.0 r.1 b,
         r.3 b,
         h.standing.placed b x.0 x.1,
-        (net_of r.0 r.1, rooms_of r.2, r.3, rest_of kind stands r.0 r.1 r.2 r.3 m told b h lists, ap (drop (r.3 b)) (sym kinds)),
+        (net_of r.0 r.1, rooms_of r.2, r.3, rest_of step r.0 r.1 r.2 r.3 m told b h lists, ap (drop (r.3 b)) (sym kinds)),
       ))
 
-  pub row_ins : (m : Held B) (b : ℕ) → b < length m.blocks → ∥ (Somewhere kind stands m) ∥₁ → b < length m.routes.ins.first
+  pub row_ins : (m : Held B) (b : ℕ) → b < length m.blocks → ∥ (Somewhere step m) ∥₁ → b < length m.routes.ins.first
   row_ins m b l sits = ∥∥₁_elim sits le_prop (λ r. let h = r.4 in let n = h.standing.number in let k = h.routed.ins.blocks in omega (arith, l, n, k))
 
-  pub row_outs : (m : Held B) (b : ℕ) → b < length m.blocks → ∥ (Somewhere kind stands m) ∥₁ → b < length m.routes.outs.first
+  pub row_outs : (m : Held B) (b : ℕ) → b < length m.blocks → ∥ (Somewhere step m) ∥₁ → b < length m.routes.outs.first
   row_outs m b l sits = ∥∥₁_elim sits le_prop (λ r. let h = r.4 in let n = h.standing.number in let k = h.routed.outs.blocks in omega (arith, l, n, k))
 
   -- the same with the rows as they were read
   pub may_rows : (m : Held B) (told : Tapped) (b : ℕ) (ins outs : List ℕ) → ins ≡ row_of m.routes.ins b → outs ≡ row_of m.routes.outs b
       → b < length m.blocks → HasLists (length m.queues) told
-      → ∥ (Somewhere kind stands m) ∥₁ → MayBurst kind stands m.blocks (record { queues = m.queues; told = told; moves = m.moves; block = b; ins = ins; outs = outs })
+      → ∥ (Somewhere step m) ∥₁ → MayBurst step m.blocks (record { queues = m.queues; told = told; moves = m.moves; block = b; ins = ins; outs = outs })
   may_rows m told b ins outs i o l lists sits =
-      subst (λ z. MayBurst kind stands m.blocks (record { queues = m.queues; told = told; moves = m.moves; block = b; ins = z; outs = outs })) (sym i)
-      (subst (λ z. MayBurst kind stands m.blocks (record { queues = m.queues; told = told; moves = m.moves; block = b; ins = row_of m.routes.ins b; outs = z })) (sym o)
+      subst (λ z. MayBurst step m.blocks (record { queues = m.queues; told = told; moves = m.moves; block = b; ins = z; outs = outs })) (sym i)
+      (subst (λ z. MayBurst step m.blocks (record { queues = m.queues; told = told; moves = m.moves; block = b; ins = row_of m.routes.ins b; outs = z })) (sym o)
       (may_of m told b l lists sits))
 
-  pub onwards_rows : ((x : B) (s : Streams) (n : ℕ) → stands x s n → n ≤ length (moves (kind x) s))
+  pub onwards_rows : ((x : B) (s : Streams) (n : ℕ) → step.stands x s n → n ≤ length (moves (step.kind x) s))
       → (m : Held B) (told : Tapped) (b : ℕ) (ins outs : List ℕ) → ins ≡ row_of m.routes.ins b → outs ≡ row_of m.routes.outs b
       → (went : Bool) (bs : List B) (qs : List Queued) (n : ℕ) (told' : Tapped)
       → b < length m.blocks → HasLists (length m.queues) told
-      → BurstAt kind stands m.blocks (record { queues = m.queues; told = told; moves = m.moves; block = b; ins = ins; outs = outs }) bs (record { queues = qs; told = told'; moves = n; block = b; ins = ins; outs = outs }) went
-      → OnwardsBy kind stands m told (record { blocks = bs; queues = qs; moves = n; routes = m.routes }) told' went
+      → BurstAt step m.blocks (record { queues = m.queues; told = told; moves = m.moves; block = b; ins = ins; outs = outs }) bs (record { queues = qs; told = told'; moves = n; block = b; ins = ins; outs = outs }) went
+      → OnwardsBy step m told (record { blocks = bs; queues = qs; moves = n; routes = m.routes }) told' went
   onwards_rows within m told b ins outs i o went bs qs n told' lb lists h =
       burst_onwards within m told b went bs qs n told' lb lists
-      (subst (λ z. BurstAt kind stands m.blocks (record { queues = m.queues; told = told; moves = m.moves; block = b; ins = z; outs = row_of m.routes.outs b }) bs (record { queues = qs; told = told'; moves = n; block = b; ins = z; outs = row_of m.routes.outs b }) went) i
-      (subst (λ z. BurstAt kind stands m.blocks (record { queues = m.queues; told = told; moves = m.moves; block = b; ins = ins; outs = z }) bs (record { queues = qs; told = told'; moves = n; block = b; ins = ins; outs = z }) went) o h))
+      (subst (λ z. BurstAt step m.blocks (record { queues = m.queues; told = told; moves = m.moves; block = b; ins = z; outs = row_of m.routes.outs b }) bs (record { queues = qs; told = told'; moves = n; block = b; ins = z; outs = row_of m.routes.outs b }) went) i
+      (subst (λ z. BurstAt step m.blocks (record { queues = m.queues; told = told; moves = m.moves; block = b; ins = ins; outs = z }) bs (record { queues = qs; told = told'; moves = n; block = b; ins = ins; outs = z }) went) o h))
 
   pub sits_on : (m : Held B) (told : Tapped) (m' : Held B) (told' : Tapped) (went : Bool)
-      → OnwardsBy kind stands m told m' told' went → ∥ (Somewhere kind stands m) ∥₁ → ∥ (Somewhere kind stands m') ∥₁
+      → OnwardsBy step m told m' told' went → ∥ (Somewhere step m) ∥₁ → ∥ (Somewhere step m') ∥₁
   sits_on m told m' told' went h sits = ∥∥₁_map sits (λ r. let o = h r.0 r.1 r.2 r.3 r.4 in (r.0, r.1, r.2, o.0, o.2))
 
 pub either_way : {E : Type 0} (P : Bool → Type 0) (r : Result Bool E) → IfOk r P → IfErr r (λ _. P false) → (went : Bool) × P went

@@ -5,8 +5,7 @@ use Rattle.std.proofs.lemmas.Bool.{cases_lt}
 use Rattle.std.proofs.lemmas.List.{get_or_append_left, get_or-append-add}
 use Rattle.std.proofs.lemmas.List.Elements.{All-from_get_or}
 use Rattle.sam_model.specs.Children.{Ranked}
-use Rattle.block_core.specs.Ports.{Streams}
-use Rattle.block_core.specs.Kind.{Kind}
+use Rattle.block_core.specs.declared.BlockStep.{Ghosts}
 use Rattle.graph.specs.declared.graphs.Graph.{Graph}
 use Rattle.graph.specs.Wiring.{block, WellFormed}
 use Rattle.graph.specs.WholeStreams.{Consistent}
@@ -71,13 +70,13 @@ ins_small g w few b l = All-from_get_or (λ c. c < 2 ^ 32) (block g b).ins 0 (λ
 pub outs_small : (g : Graph) → WellFormed g → length g.channels < 2 ^ 32 → (b : ℕ) → b < length g.blocks → All (λ c. c < 2 ^ 32) (block g b).outs
 outs_small g w few b l = All-from_get_or (λ c. c < 2 ^ 32) (block g b).outs 0 (λ p k. let i = w.out_named b p l k in let j = i.0 in omega (arith, j, few))
 
--- a machine whose queues are empty stands at the start
-pub starts_at : {B : Type 0} (kind : B → Kind) (stands : B → Streams → ℕ → Type 0) (storages : List Ranked) (g : Graph) (caps : List (Option ℕ)) (m : Held B)
-    → WellFormed g → Consistent storages g → StandAt kind stands storages g start_position m.blocks
+-- a machine whose queues are empty step.stands at the start
+pub starts_at : {B : Type 0} (step : Ghosts B) (storages : List Ranked) (g : Graph) (caps : List (Option ℕ)) (m : Held B)
+    → WellFormed g → Consistent storages g → StandAt step.kind step.stands storages g start_position m.blocks
     → length caps ≡ length g.channels → length m.queues ≡ length caps
     → ((c : ℕ) (q : Queued) → slice_get m.queues c ≡ Some q → (q.tokens ≡ []) × (q.room ≡ get_or caps c None))
-    → m.moves ≡ 0 → Routed g m.routes → AtState kind stands storages g caps start m
-starts_at kind stands storages g caps m w k own number queues empty none routed =
+    → m.moves ≡ 0 → Routed g m.routes → AtState step storages g caps start m
+starts_at step storages g caps m w k own number queues empty none routed =
     let zero = sum_zero (length g.blocks) in
     record {
       well_formed = w;

@@ -9,6 +9,6 @@ pub mod Stalling
 pub mod Laying
 pub mod GraphLaws
 mod Worked
-mod Bursting
-mod Totals
-mod TotalsOf
+pub mod Bursting
+pub mod AllMoves
+pub mod Rounds

@@ -1,14 +1,13 @@
--- An event of the machine: it stands where the event leads.
+-- An event of the machine: it step.stands where the event leads.
 use Rattle.std.specs.Prelude.{◌≡◌, ◌<◌, ℕ, ◌+◌, ◌-◌, ◌^◌, min, true, List, length, set, slice_get, get_or, Option, Some}
 use Rattle.std.proofs.Common.{arith, sym, ◌∙◌, ap, subst, inl, inr}
 use Rattle.std.proofs.lemmas.Bool.{cases_eq}
 use Rattle.std.proofs.lemmas.Option.{slice_get_within}
 use Rattle.stream_tokens.specs.declared.Token.{Token}
 use Rattle.sam_model.specs.Children.{Ranked}
+use Rattle.block_core.specs.declared.BlockStep.{Ghosts}
 use Rattle.block_core.specs.declared.Wish.TheVariants.{Take, Put}
 use Rattle.block_core.specs.Move.{Taking, Putting}
-use Rattle.block_core.specs.Ports.{Streams}
-use Rattle.block_core.specs.Kind.{Kind}
 use Rattle.graph.specs.declared.graphs.Graph.{Graph}
 use Rattle.graph.specs.Meaning.{meaning}
 use Rattle.graph.specs.Wiring.{block, into, out_of}
@@ -37,15 +36,15 @@ after m b y c q = record {
   routes = m.routes;
 }
 
-module _ {B : Type 0} (kind : B → Kind) (stands : B → Streams → ℕ → Type 0) (storages : List Ranked) (g : Graph) (caps : List (Option ℕ)) where
+module _ {B : Type 0} (step : Ghosts B) (storages : List Ranked) (g : Graph) (caps : List (Option ℕ)) where
   -- an event is possible, its block and its queue are where it leads, and nothing else changed
-  pub moved : (s : State) (m : Held B) → AtState kind stands storages g caps s m
+  pub moved : (s : State) (m : Held B) → AtState step storages g caps s m
       → (b : ℕ) (x y : B) (c : ℕ) (q q' : Queued)
       → can (net_of storages g) (rooms_of caps) s b ≡ true
-      → slice_get m.blocks b ≡ Some x → kind y ≡ kind x → stands y (whole_inputs storages g b) (s b + 1)
+      → slice_get m.blocks b ≡ Some x → step.kind y ≡ step.kind x → step.stands y (whole_inputs storages g b) (s b + 1)
       → slice_get m.queues c ≡ Some q → q'.room ≡ q.room → Waits (net_of storages g) (raise b s) c q'.tokens
       → ((d : ℕ) (r : List Token) → d < length g.channels → (d ≡ c → ⊥) → Waits (net_of storages g) s d r → Waits (net_of storages g) (raise b s) d r)
-      → AtState kind stands storages g caps (raise b s) (after m b y c q')
+      → AtState step storages g caps (raise b s) (after m b y c q')
   moved s m h b x y c q q' possible at k st qat room waits others =
       let w = wired storages g h.well_formed h.consistent in
       let net = net_of storages g in
@@ -62,7 +61,7 @@ module _ {B : Type 0} (kind : B → Kind) (stands : B → Streams → ℕ → Ty
             | inl same ↦
                 let f : slice_get (set m.blocks b y) b ≡ Some z = subst (λ n. slice_get (set m.blocks b y) n ≡ Some z) same e in
                 let yz : y ≡ z = same_some y z (sym (get_set_here m.blocks b y lb) ∙ f) in
-                ap kind (sym yz) ∙ k ∙ own.kinds b x at ∙ ap (λ n. meaning storages (block g n).kind) (sym same)
+                ap step.kind (sym yz) ∙ k ∙ own.kinds b x at ∙ ap (λ n. meaning storages (block g n).kind) (sym same)
             | inr other ↦ own.kinds d z (sym (get_set_there m.blocks b d y other) ∙ e)
           ];
           placed = λ d z e. elim (cases_eq d b) [
@@ -70,11 +69,11 @@ module _ {B : Type 0} (kind : B → Kind) (stands : B → Streams → ℕ → Ty
                 let f : slice_get (set m.blocks b y) b ≡ Some z = subst (λ n. slice_get (set m.blocks b y) n ≡ Some z) same e in
                 let yz : y ≡ z = same_some y z (sym (get_set_here m.blocks b y lb) ∙ f) in
                 let one : s b + 1 ≡ raise b s b = let r = raise_here b s in omega (arith, r) in
-                let here : stands z (whole_inputs storages g b) (raise b s b) =
-                subst (λ u. stands u (whole_inputs storages g b) (raise b s b)) yz (subst (stands y (whole_inputs storages g b)) one st) in
-                subst (λ n. stands z (whole_inputs storages g n) (raise b s n)) (sym same) here
+                let here : step.stands z (whole_inputs storages g b) (raise b s b) =
+                subst (λ u. step.stands u (whole_inputs storages g b) (raise b s b)) yz (subst (step.stands y (whole_inputs storages g b)) one st) in
+                subst (λ n. step.stands z (whole_inputs storages g n) (raise b s n)) (sym same) here
             | inr other ↦
-                subst (stands z (whole_inputs storages g d)) (sym (raise_there b s d other))
+                subst (step.stands z (whole_inputs storages g d)) (sym (raise_there b s d other))
                 (own.placed d z (sym (get_set_there m.blocks b d y other) ∙ e))
           ];
         };
@@ -97,7 +96,7 @@ module _ {B : Type 0} (kind : B → Kind) (stands : B → Streams → ℕ → Ty
       }
 
   -- a block that would take has its token, and its port's channel is in the table
-  pub take_facts : (s : State) (m : Held B) → AtState kind stands storages g caps s m → (b p : ℕ) → Wishes kind stands b (Take p) m
+  pub take_facts : (s : State) (m : Held B) → AtState step storages g caps s m → (b p : ℕ) → Wishes step b (Take p) m
       → (t : Token) × (slice_get (block_moves storages g b) (s b) ≡ Some (Taking p t)) × (b < length m.routes.ins.first)
       × (get_or m.routes.ins.first b 0 + p < length m.routes.ins.channels) × (at_port m.routes.ins b p ≡ into g b p) × (into g b p < length m.queues)
   take_facts s m h b p wishes =
@@ -107,7 +106,7 @@ module _ {B : Type 0} (kind : B → Kind) (stands : B → Streams → ℕ → Ty
       let n = h.well_formed.in_named b p l lp in
       (next.0, next.1, omega (arith, l, h.routed.ins.blocks), h.routed.ins.within b p l lp, h.routed.ins.same b p l lp, omega (arith, n.0, h.queues_number))
 
-  pub put_facts : (s : State) (m : Held B) → AtState kind stands storages g caps s m → (b p : ℕ) (t : Token) → Wishes kind stands b (Put p t) m
+  pub put_facts : (s : State) (m : Held B) → AtState step storages g caps s m → (b p : ℕ) (t : Token) → Wishes step b (Put p t) m
       → (slice_get (block_moves storages g b) (s b) ≡ Some (Putting p t)) × (b < length m.routes.outs.first)
       × (get_or m.routes.outs.first b 0 + p < length m.routes.outs.channels) × (at_port m.routes.outs b p ≡ out_of g b p) × (out_of g b p < length m.queues)
   put_facts s m h b p t wishes =

@@ -4,10 +4,11 @@ use Rattle.std.proofs.Common.{arith, sym, ◌∙◌, ap, subst}
 use Rattle.std.proofs.Math.Logic.{∥∥₁_elim, ∥∥₁_map}
 use Rattle.std.specs.Coded.{le_prop}
 use Rattle.stream_tokens.specs.declared.Token.{Token}
+use Rattle.block_core.specs.declared.BlockStep.{Ghosts}
 use Rattle.block_core.specs.declared.Wish.TheVariants.{Put}
 use Rattle.block_core.specs.Move.{Putting}
 use Rattle.block_core.specs.Ports.{Streams}
-use Rattle.block_core.specs.Kind.{Kind, moves}
+use Rattle.block_core.specs.Kind.{moves}
 use Rattle.graph.specs.Wiring.{out_of}
 use Rattle.graph.specs.WholeStreams.{whole_inputs}
 use Rattle.plays.specs.Net.{Waits, can, raise, waiting, has_room}
@@ -26,25 +27,25 @@ is_full : (b : Bool) → not b ≡ true → b ≡ false
 is_full true e = absurd (cc)
 is_full false e = refl
 
-module _ {B : Type 0} (kind : B → Kind) (stands : B → Streams → ℕ → Type 0) (m : Held B) (b p : ℕ) (t : Token) where
-  pub put_block : ∥ (Somewhere kind stands m) ∥₁ → Wishes kind stands b (Put p t) m → b < length m.routes.outs.first
-  put_block sits wishes = ∥∥₁_elim sits le_prop (λ r. (put_facts kind stands r.0 r.1 r.2 r.3 m r.4 b p t wishes).1)
+module _ {B : Type 0} (step : Ghosts B) (m : Held B) (b p : ℕ) (t : Token) where
+  pub put_block : ∥ (Somewhere step m) ∥₁ → Wishes step b (Put p t) m → b < length m.routes.outs.first
+  put_block sits wishes = ∥∥₁_elim sits le_prop (λ r. (put_facts step r.0 r.1 r.2 r.3 m r.4 b p t wishes).1)
 
-  pub put_place : ∥ (Somewhere kind stands m) ∥₁ → Wishes kind stands b (Put p t) m → get_or m.routes.outs.first b 0 + p < length m.routes.outs.channels
-  put_place sits wishes = ∥∥₁_elim sits le_prop (λ r. (put_facts kind stands r.0 r.1 r.2 r.3 m r.4 b p t wishes).2)
+  pub put_place : ∥ (Somewhere step m) ∥₁ → Wishes step b (Put p t) m → get_or m.routes.outs.first b 0 + p < length m.routes.outs.channels
+  put_place sits wishes = ∥∥₁_elim sits le_prop (λ r. (put_facts step r.0 r.1 r.2 r.3 m r.4 b p t wishes).2)
 
-  pub put_queue : ∥ (Somewhere kind stands m) ∥₁ → Wishes kind stands b (Put p t) m → at_port m.routes.outs b p < length m.queues
+  pub put_queue : ∥ (Somewhere step m) ∥₁ → Wishes step b (Put p t) m → at_port m.routes.outs b p < length m.queues
   put_queue sits wishes = ∥∥₁_elim sits le_prop (λ r.
-      let f = put_facts kind stands r.0 r.1 r.2 r.3 m r.4 b p t wishes in
+      let f = put_facts step r.0 r.1 r.2 r.3 m r.4 b p t wishes in
       omega (arith, f.3, f.4))
 
   -- on a full channel nothing is put
-  pub put_hindered : Wishes kind stands b (Put p t) m → (c : ℕ) → c ≡ at_port m.routes.outs b p → (q : Queued) → slice_get m.queues c ≡ Some q
-      → not (has_room q.room (length q.tokens)) ≡ true → WaitsOn kind stands b c true m
+  pub put_hindered : Wishes step b (Put p t) m → (c : ℕ) → c ≡ at_port m.routes.outs b p → (q : Queued) → slice_get m.queues c ≡ Some q
+      → not (has_room q.room (length q.tokens)) ≡ true → WaitsOn step b c true m
   put_hindered wishes c at q qat full storages g caps s h =
       let net = net_of storages g in
       let rooms = rooms_of caps in
-      let f = put_facts kind stands storages g caps s m h b p t wishes in
+      let f = put_facts step storages g caps s m h b p t wishes in
       let here : c ≡ out_of g b p = at ∙ f.3 in
       let own = h.queues c q qat in
       let w : Waits net s (out_of g b p) q.tokens = subst (λ n. Waits net s n q.tokens) here own.1 in
@@ -57,11 +58,11 @@ module _ {B : Type 0} (kind : B → Kind) (stands : B → Streams → ℕ → Ty
       ∙ ap (λ n. Some (n, true)) (sym here)
 
   -- the block may be told that it put
-  pub put_may : Wishes kind stands b (Put p t) m → b < length m.blocks → ∥ (Somewhere kind stands m) ∥₁
-      → ∥ ((x : B) × (s : Streams) × (n : ℕ) × (port : ℕ) × (t : Token) × (slice_get m.blocks b ≡ Some x) × stands x s n × (slice_get (moves (kind x) s) n ≡ Some (Putting port t))) ∥₁
+  pub put_may : Wishes step b (Put p t) m → b < length m.blocks → ∥ (Somewhere step m) ∥₁
+      → ∥ ((x : B) × (s : Streams) × (n : ℕ) × (port : ℕ) × (t : Token) × (slice_get m.blocks b ≡ Some x) × step.stands x s n × (slice_get (moves (step.kind x) s) n ≡ Some (Putting port t))) ∥₁
   put_may wishes lb sits = ∥∥₁_map sits (λ r.
       let h = r.4 in
-      let f = put_facts kind stands r.0 r.1 r.2 r.3 m h b p t wishes in
+      let f = put_facts step r.0 r.1 r.2 r.3 m h b p t wishes in
       let x = some_in m.blocks b lb in (
         x.0,
         whole_inputs r.0 r.1 b,
@@ -74,18 +75,18 @@ module _ {B : Type 0} (kind : B → Kind) (stands : B → Streams → ℕ → Ty
       ))
 
   -- it has put it
-  pub put : Wishes kind stands b (Put p t) m → b < length m.blocks → (c : ℕ) → c ≡ at_port m.routes.outs b p → (q : Queued) → slice_get m.queues c ≡ Some q
+  pub put : Wishes step b (Put p t) m → b < length m.blocks → (c : ℕ) → c ≡ at_port m.routes.outs b p → (q : Queued) → slice_get m.queues c ≡ Some q
       → not (has_room q.room (length q.tokens)) ≡ false
-      → (bs : List B) → ((x : B) → slice_get m.blocks b ≡ Some x → (y : B) × (bs ≡ set m.blocks b y) × (kind y ≡ kind x)
-      × ((s : Streams) (n : ℕ) (port : ℕ) (t : Token) → stands x s n → slice_get (moves (kind x) s) n ≡ Some (Putting port t) → stands y s (n + 1)))
+      → (bs : List B) → ((x : B) → slice_get m.blocks b ≡ Some x → (y : B) × (bs ≡ set m.blocks b y) × (step.kind y ≡ step.kind x)
+      × ((s : Streams) (n : ℕ) (port : ℕ) (t : Token) → step.stands x s n → slice_get (moves (step.kind x) s) n ≡ Some (Putting port t) → step.stands y s (n + 1)))
       → (qs : List Queued) → qs ≡ set m.queues c (record { tokens = q.tokens ++ t ∷ []; room = q.room })
       → (n : ℕ) → n ≡ min (m.moves + 1) (2 ^ 64 - 1)
       → (told told' : Tapped) → HasLists (length m.queues) told → told' ≡ one_told c t told
-      → Moved kind stands b m told (record { blocks = bs; queues = qs; moves = n; routes = m.routes }) told'
+      → Moved step b m told (record { blocks = bs; queues = qs; moves = n; routes = m.routes }) told'
   put wishes lb c at q qat open_ bs done qs pushed n counted told told' lists tells storages g caps s h =
       let net = net_of storages g in
       let rooms = rooms_of caps in
-      let f = put_facts kind stands storages g caps s m h b p t wishes in
+      let f = put_facts step storages g caps s m h b p t wishes in
       let wire = wired storages g h.well_formed h.consistent in
       let here : c ≡ out_of g b p = at ∙ f.3 in
       let own = h.queues c q qat in
@@ -97,13 +98,13 @@ module _ {B : Type 0} (kind : B → Kind) (stands : B → Streams → ℕ → Ty
       let x = some_in m.blocks b lb in
       let y = done x.0 x.1 in
       let q' : Queued = record { tokens = q.tokens ++ t ∷ []; room = q.room } in
-      let move : slice_get (moves (kind x.0) (whole_inputs storages g b)) (s b) ≡ Some (Putting p t) =
+      let move : slice_get (moves (step.kind x.0) (whole_inputs storages g b)) (s b) ≡ Some (Putting p t) =
       ap (λ k. slice_get (moves k (whole_inputs storages g b)) (s b)) (h.standing.kinds b x.0 x.1) ∙ f.0 in
-      let stood : stands y.0 (whole_inputs storages g b) (s b + 1) = y.3 (whole_inputs storages g b) (s b) p t (h.standing.placed b x.0 x.1) move in
+      let stood : step.stands y.0 (whole_inputs storages g b) (s b + 1) = y.3 (whole_inputs storages g b) (s b) p t (h.standing.placed b x.0 x.1) move in
       let waits : Waits net (raise b s) c (q.tokens ++ t ∷ []) =
       subst (λ k. Waits net (raise b s) k (q.tokens ++ t ∷ [])) (sym here) (waits_put net s b p t q.tokens wire f.0 w) in
-      let at' : AtState kind stands storages g caps (raise b s) (after m b y.0 c q') =
-      moved kind stands storages g caps s m h b x.0 y.0 c q q' possible x.1 y.2 stood qat refl waits
+      let at' : AtState step storages g caps (raise b s) (after m b y.0 c q') =
+      moved step storages g caps s m h b x.0 y.0 c q q' possible x.1 y.2 stood qat refl waits
       (λ d r ld other old. waits_put_there net s b p t d r wire f.0 ld (λ z. other (z ∙ sym here)) old) in
       let same : after m b y.0 c q' ≡ record { blocks = bs; queues = qs; moves = n; routes = m.routes } =
       ap (λ z. record { blocks = z; queues = set m.queues c q'; moves = min (m.moves + 1) (2 ^ 64 - 1); routes = m.routes }) (sym y.1)
@@ -112,6 +113,6 @@ module _ {B : Type 0} (kind : B → Kind) (stands : B → Streams → ℕ → Ty
       let told_here : Grew net s (raise b s) told (one_told (out_of g b p) t told) =
       told_put net s b p t told wire f.0 (subst (λ k. HasLists k told) h.queues_number lists) in (
         possible,
-        subst (AtState kind stands storages g caps (raise b s)) same at',
+        subst (AtState step storages g caps (raise b s)) same at',
         subst (Grew net s (raise b s) told) (ap (λ k. one_told k t told) (sym here) ∙ sym tells) told_here,
       )

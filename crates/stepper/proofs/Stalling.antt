@@ -8,10 +8,9 @@ use Rattle.std.specs.Coded.{le_prop}
 use Rattle.sam_base.specs.declared.faults.Waiting.{Waiting}
 use Rattle.sam_model.specs.Children.{Ranked}
 use Rattle.stream_tokens.specs.declared.Token.{Token}
+use Rattle.block_core.specs.declared.BlockStep.{Ghosts}
 use Rattle.block_core.specs.declared.Wish.TheVariants.{Take, Put, Finished as WishFinished}
 use Rattle.block_core.specs.Move.{Move, Taking, Putting}
-use Rattle.block_core.specs.Ports.{Streams}
-use Rattle.block_core.specs.Kind.{Kind}
 use Rattle.graph.specs.declared.graphs.Graph.{Graph}
 use Rattle.graph.specs.WholeStreams.{whole_inputs}
 use Rattle.graph.specs.Standing.{block_moves, StandAt, final_position}
@@ -24,26 +23,26 @@ use Rattle.stepper.specs.Endings.{waiting_for, waiting_below, waiting_list}
 use Rattle.stepper.proofs.Wishes.{wish_finished}
 use Rattle.stepper.proofs.Moving.{take_facts, put_facts}
 
-module _ {B : Type 0} (kind : B → Kind) (stands : B → Streams → ℕ → Type 0) (m : Held B) where
-  pub few_blocks : ∥ (Somewhere kind stands m) ∥₁ → length m.blocks < 2 ^ 32
+module _ {B : Type 0} (step : Ghosts B) (m : Held B) where
+  pub few_blocks : ∥ (Somewhere step m) ∥₁ → length m.blocks < 2 ^ 32
   few_blocks sits = ∥∥₁_elim sits le_prop (λ r. omega (arith, r.4.routed.few, r.4.standing.number))
 
-  pub waits_take : (b p c : ℕ) → Wishes kind stands b (Take p) m → c ≡ at_port m.routes.ins b p
-      → Wherever kind stands m (λ net rooms s. (record { block = b; channel = c; full = false } ∷ []) ≡ waiting_for net b (slice_get (net.moves b) (s b)))
+  pub waits_take : (b p c : ℕ) → Wishes step b (Take p) m → c ≡ at_port m.routes.ins b p
+      → Wherever step m (λ net rooms s. (record { block = b; channel = c; full = false } ∷ []) ≡ waiting_for net b (slice_get (net.moves b) (s b)))
   waits_take b p c wishes at storages g caps s h =
-      let f = take_facts kind stands storages g caps s m h b p wishes in
+      let f = take_facts step storages g caps s m h b p wishes in
       let here = at ∙ f.4 in
       ap (λ n. record { block = b; channel = n; full = false } ∷ []) here ∙ sym (ap (waiting_for (net_of storages g) b) f.1)
 
-  pub waits_put : (b p c : ℕ) (t : Token) → Wishes kind stands b (Put p t) m → c ≡ at_port m.routes.outs b p
-      → Wherever kind stands m (λ net rooms s. (record { block = b; channel = c; full = true } ∷ []) ≡ waiting_for net b (slice_get (net.moves b) (s b)))
+  pub waits_put : (b p c : ℕ) (t : Token) → Wishes step b (Put p t) m → c ≡ at_port m.routes.outs b p
+      → Wherever step m (λ net rooms s. (record { block = b; channel = c; full = true } ∷ []) ≡ waiting_for net b (slice_get (net.moves b) (s b)))
   waits_put b p c t wishes at storages g caps s h =
-      let f = put_facts kind stands storages g caps s m h b p t wishes in
+      let f = put_facts step storages g caps s m h b p t wishes in
       let here = at ∙ f.3 in
       ap (λ n. record { block = b; channel = n; full = true } ∷ []) here ∙ sym (ap (waiting_for (net_of storages g) b) f.0)
 
-  pub waits_none : (b : ℕ) → Wishes kind stands b WishFinished m
-      → Wherever kind stands m (λ net rooms s. [] ≡ waiting_for net b (slice_get (net.moves b) (s b)))
+  pub waits_none : (b : ℕ) → Wishes step b WishFinished m
+      → Wherever step m (λ net rooms s. [] ≡ waiting_for net b (slice_get (net.moves b) (s b)))
   waits_none b wishes storages g caps s h =
       let e = wish_finished (block_moves storages g b) (s b) (h.kept.within b) (wishes storages g caps s h) in
       sym (ap (waiting_for (net_of storages g) b) (slice_get_past (block_moves storages g b) (s b) (omega (arith, e))))
@@ -100,14 +99,14 @@ pub some_waiting : (net : Net) (s : State) → (waiting_list net s ≡ [] → �
 some_waiting net s some h = some (all_finished net s net.blocks h)
 
 -- the blocks of a finished machine are at the end of their moves
-pub stand_end : {B : Type 0} (kind : B → Kind) (stands : B → Streams → ℕ → Type 0) (storages : List Ranked) (g : Graph) (s : State) (bs : List B)
-    → StandAt kind stands storages g s bs → Finished (net_of storages g) s → StandAt kind stands storages g (final_position storages g) bs
-stand_end kind stands storages g s bs own done = record {
+pub stand_end : {B : Type 0} (step : Ghosts B) (storages : List Ranked) (g : Graph) (s : State) (bs : List B)
+    → StandAt step.kind step.stands storages g s bs → Finished (net_of storages g) s → StandAt step.kind step.stands storages g (final_position storages g) bs
+stand_end step storages g s bs own done = record {
   number = own.number;
   kinds = own.kinds;
   placed = λ b x at.
       let l = slice_get_within bs b x at in
-      subst (stands x (whole_inputs storages g b)) (done b (omega (arith, l, own.number))) (own.placed b x at);
+      subst (step.stands x (whole_inputs storages g b)) (done b (omega (arith, l, own.number))) (own.placed b x at);
 }
 
 pub nil_of : (xs : List Waiting) → length xs ≡ 0 → xs ≡ []

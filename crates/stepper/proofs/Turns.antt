@@ -3,9 +3,8 @@ use Rattle.std.specs.Prelude.{◌≡◌, ◌<◌, ◌≤◌, ℕ, ◌+◌, Bool,
 use Rattle.std.proofs.Common.{arith, sym, ◌∙◌, ap, subst}
 use Rattle.std.proofs.lemmas.List.{take_more, get_or_default}
 use Rattle.std.proofs.lemmas.Option.{slice_get_past}
+use Rattle.block_core.specs.declared.BlockStep.{Ghosts}
 use Rattle.block_core.specs.Move.{Move, Taking, Putting}
-use Rattle.block_core.specs.Ports.{Streams}
-use Rattle.block_core.specs.Kind.{Kind}
 use Rattle.plays.specs.Net.{Net, Rooms, State, Stuck, can, can_move, turn, play}
 use Rattle.plays.proofs.Tellings.{grew_same, grew_then}
 use Rattle.plays.proofs.Always.{turn_made, turn_idle, play_append}
@@ -37,47 +36,47 @@ through_idle net rooms s b e = ap (can_move net rooms s b) (slice_get_past (net.
 
 -- ---- one turn
 
-module _ {B : Type 0} (kind : B → Kind) (stands : B → Streams → ℕ → Type 0) where
+module _ {B : Type 0} (step : Ghosts B) where
   pub turned_moved : (b : ℕ) (m : Held B) (told : Tapped) (m' : Held B) (told' : Tapped)
-      → Moved kind stands b m told m' told' → Turned kind stands b true m told m' told'
+      → Moved step b m told m' told' → Turned step b true m told m' told'
   turned_moved b m told m' told' moves storages g caps s h =
       let r = moves storages g caps s h in
       let made = turn_made (net_of storages g) (rooms_of caps) s b r.0 in (
         r.0,
-        subst (λ t. AtState kind stands storages g caps t m') (sym made) r.1,
+        subst (λ t. AtState step storages g caps t m') (sym made) r.1,
         subst (λ t. Grew (net_of storages g) s t told told') (sym made) r.2,
       )
 
   turned_idle : (b : ℕ) (m : Held B) (told : Tapped) (m' : Held B) (told' : Tapped)
-      → Wherever kind stands m (λ net rooms s. can net rooms s b ≡ false) → m' ≡ m → told' ≡ told → Turned kind stands b false m told m' told'
+      → Wherever step m (λ net rooms s. can net rooms s b ≡ false) → m' ≡ m → told' ≡ told → Turned step b false m told m' told'
   turned_idle b m told m' told' cannot same same_told storages g caps s h =
       let net = net_of storages g in
       let none = cannot storages g caps s h in
       let idle = turn_idle net (rooms_of caps) s b none in (
         none,
-        subst (λ t. AtState kind stands storages g caps t m') (sym idle) (subst (AtState kind stands storages g caps s) (sym same) h),
+        subst (λ t. AtState step storages g caps t m') (sym idle) (subst (AtState step storages g caps s) (sym same) h),
         subst (λ t. Grew net s t told told') (sym idle) (subst (Grew net s s told) (sym same_told) (grew_same net s told)),
       )
 
   pub turned_blocked : (b c : ℕ) (full : Bool) (m : Held B) (told : Tapped) (m' : Held B) (told' : Tapped)
-      → (m' ≡ m) × (told' ≡ told) × WaitsOn kind stands b c full m → Turned kind stands b false m told m' told'
+      → (m' ≡ m) × (told' ≡ told) × WaitsOn step b c full m → Turned step b false m told m' told'
   turned_blocked b c full m told m' told' h =
       turned_idle b m told m' told' (λ storages g caps s a. hindered_idle (net_of storages g) (rooms_of caps) s b c full (h.2 storages g caps s a)) h.0 h.1
 
   pub turned_ended : (b : ℕ) (m : Held B) (told : Tapped) (m' : Held B) (told' : Tapped)
-      → (m' ≡ m) × (told' ≡ told) × HasEnded kind stands b m → Turned kind stands b false m told m' told'
+      → (m' ≡ m) × (told' ≡ told) × HasEnded step b m → Turned step b false m told m' told'
   turned_ended b m told m' told' h =
       turned_idle b m told m' told' (λ storages g caps s a. through_idle (net_of storages g) (rooms_of caps) s b (h.2 storages g caps s a)) h.0 h.1
 
   -- ---- a schedule
 
-  pub played_none : (m : Held B) (told : Tapped) → Played kind stands [] m told m told
+  pub played_none : (m : Held B) (told : Tapped) → Played step [] m told m told
   played_none m told storages g caps s h = (h, grew_same (net_of storages g) s told)
 
   -- one turn more of a schedule
   pub played_more : (bs : List ℕ) (i : ℕ) (moved : Bool) (m : Held B) (told : Tapped) (m' : Held B) (told' : Tapped) (m'' : Held B) (told'' : Tapped)
       → i < length bs
-      → Played kind stands (take i bs) m told m' told' → Turned kind stands (get_or bs i 0) moved m' told' m'' told'' → Played kind stands (take (i + 1) bs) m told m'' told''
+      → Played step (take i bs) m told m' told' → Turned step (get_or bs i 0) moved m' told' m'' told'' → Played step (take (i + 1) bs) m told m'' told''
   played_more bs i moved m told m' told' m'' told'' l first next storages g caps s h =
       let net = net_of storages g in
       let rooms = rooms_of caps in
@@ -87,7 +86,7 @@ module _ {B : Type 0} (kind : B → Kind) (stands : B → Streams → ℕ → Ty
       let longer : take (i + 1) bs ≡ take i bs ++ b ∷ [] = take_more bs i 0 l in
       let same : turn net rooms (play net rooms s (take i bs)) b ≡ play net rooms s (take (i + 1) bs) =
       sym (play_append net rooms s (take i bs) (b ∷ [])) ∙ ap (play net rooms s) (sym longer) in (
-        subst (λ t. AtState kind stands storages g caps t m'') same q.1,
+        subst (λ t. AtState step storages g caps t m'') same q.1,
         subst (λ t. Grew net s t told told'') same
             (grew_then net s (play net rooms s (take i bs)) (turn net rooms (play net rooms s (take i bs)) b) told told' told'' p.1 q.2),
       )
@@ -102,15 +101,15 @@ lists_same n m told e h = subst (λ k. HasLists k told) e h
 
 -- ---- events
 
-module _ {B : Type 0} (kind : B → Kind) (stands : B → Streams → ℕ → Type 0) where
-  pub onwards_none : (m : Held B) (told : Tapped) → Onwards kind stands m told m told
+module _ {B : Type 0} (step : Ghosts B) where
+  pub onwards_none : (m : Held B) (told : Tapped) → Onwards step m told m told
   onwards_none m told storages g caps s h = (s, ([], refl), h, grew_same (net_of storages g) s told)
 
-  pub onwards_same : (m : Held B) (told : Tapped) (m' : Held B) (told' : Tapped) → (m' ≡ m) × (told' ≡ told) → Onwards kind stands m told m' told'
-  onwards_same m told m' told' e = subst (λ z. Onwards kind stands m told z told') (sym e.0) (subst (Onwards kind stands m told m) (sym e.1) (onwards_none m told))
+  pub onwards_same : (m : Held B) (told : Tapped) (m' : Held B) (told' : Tapped) → (m' ≡ m) × (told' ≡ told) → Onwards step m told m' told'
+  onwards_same m told m' told' e = subst (λ z. Onwards step m told z told') (sym e.0) (subst (Onwards step m told m) (sym e.1) (onwards_none m told))
 
   pub onwards_then : (m : Held B) (told : Tapped) (m' : Held B) (told' : Tapped) (m'' : Held B) (told'' : Tapped)
-      → Onwards kind stands m told m' told' → Onwards kind stands m' told' m'' told'' → Onwards kind stands m told m'' told''
+      → Onwards step m told m' told' → Onwards step m' told' m'' told'' → Onwards step m told m'' told''
   onwards_then m told m' told' m'' told'' first next storages g caps s h =
       let net = net_of storages g in
       let rooms = rooms_of caps in
@@ -123,18 +122,18 @@ module _ {B : Type 0} (kind : B → Kind) (stands : B → Streams → ℕ → Ty
       )
 
   pub onwards_turned : (b : ℕ) (moved : Bool) (m : Held B) (told : Tapped) (m' : Held B) (told' : Tapped)
-      → Turned kind stands b moved m told m' told' → Onwards kind stands m told m' told'
+      → Turned step b moved m told m' told' → Onwards step m told m' told'
   onwards_turned b moved m told m' told' h storages g caps s a =
       let r = h storages g caps s a in
       (turn (net_of storages g) (rooms_of caps) s b, (b ∷ [], refl), r.1, r.2)
 
   pub onwards_moved : (b : ℕ) (m : Held B) (told : Tapped) (m' : Held B) (told' : Tapped)
-      → Moved kind stands b m told m' told' → Onwards kind stands m told m' told'
-  onwards_moved b m told m' told' h = onwards_turned b true m told m' told' (turned_moved kind stands b m told m' told' h)
+      → Moved step b m told m' told' → Onwards step m told m' told'
+  onwards_moved b m told m' told' h = onwards_turned b true m told m' told' (turned_moved step b m told m' told' h)
 
   -- a pass in which no block could move
   pub all_cannot : (m : Held B) (n : ℕ) → length m.routes.order ≤ n
-      → ((k : ℕ) → k < n → Wherever kind stands m (λ net rooms s. can net rooms s (get_or m.routes.order k 0) ≡ false)) → Wherever kind stands m Stuck
+      → ((k : ℕ) → k < n → Wherever step m (λ net rooms s. can net rooms s (get_or m.routes.order k 0) ≡ false)) → Wherever step m Stuck
   all_cannot m n l cannot storages g caps s h b lb =
       let at = h.routed.order.whole b lb in
       let same : get_or m.routes.order at.0 0 ≡ b = get_or_default m.routes.order at.0 0 b at.1 ∙ at.2 in

@@ -1,8 +1,7 @@
 -- Where a machine stands.
 use Rattle.std.specs.Prelude.{◌≡◌, ◌<◌, ℕ, ◌+◌, ◌-◌, ◌^◌, min, List, length, slice_get, get_or, Option, Some}
 use Rattle.sam_model.specs.Children.{Ranked}
-use Rattle.block_core.specs.Ports.{Streams}
-use Rattle.block_core.specs.Kind.{Kind}
+use Rattle.block_core.specs.declared.BlockStep.{Ghosts}
 use Rattle.graph.specs.declared.graphs.Graph.{Graph}
 use Rattle.graph.specs.Wiring.{block, WellFormed}
 use Rattle.graph.specs.Order.{IsForwardOrder}
@@ -29,14 +28,14 @@ pub record Routed (g : Graph) (r : Routes) : Type 0 where
 abbrev pub QueueOf : Net → (ℕ → Option ℕ) → State → ℕ → Queued → Type 0
 QueueOf net rooms s c q = (q.room ≡ rooms c) × Waits net s c q.tokens
 
--- The machine stands at a state of a graph over stored tensors, under these capacities: each block has made as many moves
+-- The machine step.stands at a state of a graph over stored tensors, under these capacities: each block has made as many moves
 -- as the state says, what waits on a channel is what was put there and not taken, no queue is longer than its channel's
 -- capacity, and the events are counted up to 2^64-1.
-pub record AtState {B : Type 0} (kind : B → Kind) (stands : B → Streams → ℕ → Type 0)
+pub record AtState {B : Type 0} (step : Ghosts B)
     (storages : List Ranked) (g : Graph) (caps : List (Option ℕ)) (s : State) (m : Held B) : Type 0 where
   pub well_formed : WellFormed g
   pub consistent : Consistent storages g
-  pub standing : StandAt kind stands storages g s m.blocks
+  pub standing : StandAt step.kind step.stands storages g s m.blocks
   pub kept : WithinBounds (net_of storages g) (rooms_of caps) s
   pub queues_number : length m.queues ≡ length g.channels
   pub queues : (c : ℕ) (q : Queued) → slice_get m.queues c ≡ Some q → QueueOf (net_of storages g) (rooms_of caps) s c q
@@ -44,12 +43,12 @@ pub record AtState {B : Type 0} (kind : B → Kind) (stands : B → Streams → 
   pub routed : Routed g m.routes
 
 -- at some state
-abbrev pub Somewhere : {B : Type 0} → (B → Kind) → (B → Streams → ℕ → Type 0) → Held B → Type 0
-Somewhere kind stands m =
-    (storages : List Ranked) × (g : Graph) × (caps : List (Option ℕ)) × (s : State) × AtState kind stands storages g caps s m
+abbrev pub Somewhere : {B : Type 0} → Ghosts B → Held B → Type 0
+Somewhere step m =
+    (storages : List Ranked) × (g : Graph) × (caps : List (Option ℕ)) × (s : State) × AtState step storages g caps s m
 
 -- whatever the state at which the machine stands, this holds there
-abbrev pub Wherever : {B : Type 0} → (B → Kind) → (B → Streams → ℕ → Type 0) → Held B → (Net → (ℕ → Option ℕ) → State → Type 0) → Type 0
-Wherever kind stands m P =
+abbrev pub Wherever : {B : Type 0} → Ghosts B → Held B → (Net → (ℕ → Option ℕ) → State → Type 0) → Type 0
+Wherever step m P =
     (storages : List Ranked) (g : Graph) (caps : List (Option ℕ)) (s : State)
-    → AtState kind stands storages g caps s m → P (net_of storages g) (rooms_of caps) s
+    → AtState step storages g caps s m → P (net_of storages g) (rooms_of caps) s

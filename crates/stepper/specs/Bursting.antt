@@ -1,8 +1,7 @@
 -- A burst of one block.
 use Rattle.std.specs.Prelude.{◌≡◌, ◌<◌, ◌≤◌, ℕ, Bool, true, List, length, drop, get_or, Option}
 use Rattle.sam_model.specs.Children.{Ranked}
-use Rattle.block_core.specs.Ports.{Streams}
-use Rattle.block_core.specs.Kind.{Kind}
+use Rattle.block_core.specs.declared.BlockStep.{Ghosts}
 use Rattle.graph.specs.declared.graphs.Graph.{Graph}
 use Rattle.plays.specs.Net.{State, PlaysTo, sum_below}
 use Rattle.plays.specs.Held.{Table, Held}
@@ -18,10 +17,16 @@ row_of t b = drop (get_or t.first b 0) t.channels
 abbrev pub block_ends : {B : Type 0} → Held B → Tapped → ℕ → BlockEnds
 block_ends m told b = record { queues = m.queues; told = told; moves = m.moves; block = b; ins = row_of m.routes.ins b; outs = row_of m.routes.outs b }
 
--- events lead to where the machine stands, at least one where the flag says so
-abbrev pub OnwardsBy : {B : Type 0} → (B → Kind) → (B → Streams → ℕ → Type 0)
+-- Wherever the machine stood, events lead to where it stands, at least one where the flag says so; a tap was given what was put.
+abbrev pub OnwardsBy : {B : Type 0} → Ghosts B
     → Held B → Tapped → Held B → Tapped → Bool → Type 0
-OnwardsBy kind stands m told m' told' went =
-    (storages : List Ranked) (g : Graph) (caps : List (Option ℕ)) (s : State) → AtState kind stands storages g caps s m
-    → (t : State) × PlaysTo (net_of storages g) (rooms_of caps) s t × AtState kind stands storages g caps t m' × Grew (net_of storages g) s t told told'
+OnwardsBy step m told m' told' went =
+    (storages : List Ranked) (g : Graph) (caps : List (Option ℕ)) (s : State) → AtState step storages g caps s m
+    → (t : State) × PlaysTo (net_of storages g) (rooms_of caps) s t × AtState step storages g caps t m' × Grew (net_of storages g) s t told told'
     × (sum_below (length g.blocks) s ≤ sum_below (length g.blocks) t) × (went ≡ true → sum_below (length g.blocks) s < sum_below (length g.blocks) t)
+
+-- somewhere, after at least so many events
+abbrev pub SomewhereFar : {B : Type 0} → Ghosts B → Held B → ℕ → Type 0
+SomewhereFar step m n =
+    (storages : List Ranked) × (g : Graph) × (caps : List (Option ℕ)) × (s : State)
+    × AtState step storages g caps s m × (n ≤ sum_below (length g.blocks) s)

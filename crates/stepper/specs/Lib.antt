@@ -7,4 +7,4 @@ pub mod Runs
 pub mod Endings
 pub mod Laws
 pub mod Bursting
-pub mod Shape
+pub mod AllMoves

@@ -22,7 +22,10 @@ fn one_more(moves: u64) -> u64
     moves.saturating_add(1)
 }
 
-/// The queues of all channels, with the rows of the channels at one block's ports.
+/// How many events a block has in a row, at most.
+const BURST: u32 = 512;
+
+/// The queues of all channels, with the rows of the channels at one block's ports. Nothing is put on a queue that is long.
 #[derive(Drop)]
 pub(crate) struct Ends<'a, T: Tap> {
     pub(crate) queues: &'a mut Vec<Queue>,
@@ -31,6 +34,7 @@ pub(crate) struct Ends<'a, T: Tap> {
     pub(crate) block: usize,
     pub(crate) ins: &'a [u32],
     pub(crate) outs: &'a [u32],
+    pub(crate) long: usize,
 }
 
 impl<'a, T: Tap> Ends<'a, T> {
@@ -50,7 +54,7 @@ impl<'a, T: Tap> Ends<'a, T> {
         let source = ins[from as usize] as usize;
         let channel = self.outs[to as usize];
         let place = channel as usize;
-        if self.queues[place].is_full() {
+        if self.queues[place].is_held(self.long) {
             return Ok(false);
         }
         push_at(self.queues, place, t)?;
@@ -106,7 +110,7 @@ impl<'a, T: Tap> Ports for Ends<'a, T> {
     fn put(&mut self, port: u32, t: Token) -> Result<bool, AllocError> {
         let channel = self.outs[port as usize];
         let place = channel as usize;
-        if self.queues[place].is_full() {
+        if self.queues[place].is_held(self.long) {
             return Ok(false);
         }
         push_at(self.queues, place, t)?;
@@ -132,7 +136,7 @@ impl<'a, T: Tap> Ports for Ends<'a, T> {
     ghost comes = { λ v port t rest f. comes _ port t rest f };
 }
 
-/// Some moves of one block of many, at most so many. The answer says whether there was one.
+/// Some moves of one block of many, with no put on a queue that is this long. The answer says whether there was one.
 pub(crate) fn burst_at<B: BlockStep, T: Tap>(
     blocks: &mut Vec<B>,
     queues: &mut Vec<Queue>,
@@ -141,14 +145,14 @@ pub(crate) fn burst_at<B: BlockStep, T: Tap>(
     block: usize,
     ins: &[u32],
     outs: &[u32],
-    most: u32,
+    long: usize,
 ) -> Result<bool, AllocError>
     requires within { block < length blocks.old.items }
-    requires may { MayBurst B.kind B.stands blocks.old.items (record { queues = queues.old.items; told = T.told tap.old; moves = moves.old; block = block; ins = ins.now; outs = outs.now }) }
+    requires may { MayBurst B.BlockStep blocks.old.items (record { queues = queues.old.items; told = T.told tap.old; moves = moves.old; block = block; ins = ins.now; outs = outs.now }) }
     ensures same_length { length blocks.new.items ≡ length blocks.old.items }
     ensures same_ends { SameEnds (record { queues = queues.old.items; told = T.told tap.old; moves = moves.old; block = block; ins = ins.now; outs = outs.now }) (record { queues = queues.new.items; told = T.told tap.new; moves = moves.new; block = block; ins = ins.now; outs = outs.now }) }
-    ensures poured { IfOk result (λ went. BurstAt B.kind B.stands blocks.old.items (record { queues = queues.old.items; told = T.told tap.old; moves = moves.old; block = block; ins = ins.now; outs = outs.now }) blocks.new.items (record { queues = queues.new.items; told = T.told tap.new; moves = moves.new; block = block; ins = ins.now; outs = outs.now }) went) }
-    ensures refused { IfErr result (λ _. BurstAt B.kind B.stands blocks.old.items (record { queues = queues.old.items; told = T.told tap.old; moves = moves.old; block = block; ins = ins.now; outs = outs.now }) blocks.new.items (record { queues = queues.new.items; told = T.told tap.new; moves = moves.new; block = block; ins = ins.now; outs = outs.now }) false) }
+    ensures poured { IfOk result (λ went. BurstAt B.BlockStep blocks.old.items (record { queues = queues.old.items; told = T.told tap.old; moves = moves.old; block = block; ins = ins.now; outs = outs.now }) blocks.new.items (record { queues = queues.new.items; told = T.told tap.new; moves = moves.new; block = block; ins = ins.now; outs = outs.now }) went) }
+    ensures refused { IfErr result (λ _. BurstAt B.BlockStep blocks.old.items (record { queues = queues.old.items; told = T.told tap.old; moves = moves.old; block = block; ins = ins.now; outs = outs.now }) blocks.new.items (record { queues = queues.new.items; told = T.told tap.new; moves = moves.new; block = block; ins = ins.now; outs = outs.now }) false) }
 {
     let mut ends = Ends {
         queues,
@@ -157,8 +161,9 @@ pub(crate) fn burst_at<B: BlockStep, T: Tap>(
         block,
         ins,
         outs,
+        long,
     };
-    let went = blocks[block].burst(&mut ends, most);
+    let went = blocks[block].burst(&mut ends, BURST);
     *moves = ends.moves;
     went
 }

@@ -7,7 +7,7 @@ ghost use Rattle.graph.specs.WholeStreams.{Consistent};
 ghost use Rattle.graph.specs.Standing.{StandAt, start_position};
 ghost use Rattle.plays.specs.Net.{start};
 ghost use Rattle.stepper.specs.Capacity.{CapacitiesFor};
-ghost use Rattle.stepper.specs.AtState.{AtState};
+ghost use Rattle.stepper.specs.AtState.{AtState, Somewhere};
 
 use crate::queue::{Queue, queues_for};
 use crate::routes::Plan;
@@ -17,9 +17,9 @@ use sam_base::Items;
 use std::alloc::{AllocError, Global};
 use std::marker::Model;
 
+mod burst;
 mod finish;
 mod play;
-mod pour;
 mod step;
 
 pub use finish::Ending;
@@ -59,7 +59,7 @@ impl<B: BlockStep> Model for Machine<B> {
 
     ghost view = { λ m. record { blocks = m.blocks.items; queues = m.queues.items; moves = m.moves; routes = routes_of m.plan } };
 
-    ghost invariant = { λ m. ∥ (Somewhere B.kind B.stands (record { blocks = m.blocks.items; queues = m.queues.items; moves = m.moves; routes = routes_of m.plan })) ∥₁ };
+    ghost invariant = { λ m. ∥ (Somewhere B.BlockStep (record { blocks = m.blocks.items; queues = m.queues.items; moves = m.moves; routes = routes_of m.plan })) ∥₁ };
 }
 
 impl<B: BlockStep + Drop> Machine<B> {
@@ -76,7 +76,7 @@ impl<B: BlockStep + Drop> Machine<B> {
         requires few_channels { length g.now.channels < 2 ^ 32 }
         requires capacities { CapacitiesFor (length g.now.channels) caps.now.each }
         requires own { ∥ ((storages : List Ranked) × Consistent storages g.now × StandAt B.kind B.stands storages g.now start_position blocks.items) ∥₁ }
-        ensures starts { IfOk result (λ machine. (storages : List Ranked) → Consistent storages g.now → StandAt B.kind B.stands storages g.now start_position blocks.items → AtState B.kind B.stands storages g.now caps.now.each start machine) }
+        ensures starts { IfOk result (λ machine. (storages : List Ranked) → Consistent storages g.now → StandAt B.kind B.stands storages g.now start_position blocks.items → AtState B.BlockStep storages g.now caps.now.each start machine) }
         ensures same_blocks { IfOk result (λ machine. machine.blocks ≡ blocks.items) }
         ensures queues { IfOk result (λ machine. length machine.queues ≡ length g.now.channels) }
         ensures no_event { IfOk result (λ machine. machine.moves ≡ 0) }
@@ -89,6 +89,13 @@ impl<B: BlockStep + Drop> Machine<B> {
             moves: 0,
             plan,
         })
+    }
+
+    /// The machine stands somewhere.
+    pub(super) fn stands(&self)
+        ensures { ∥ (Somewhere B.BlockStep self.now) ∥₁ }
+    {
+        let _moves = self.moves;
     }
 
     /// The number of events so far.

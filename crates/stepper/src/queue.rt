@@ -1,6 +1,6 @@
 //! What waits on a channel.
 
-ghost use Rattle.std.specs.Prelude.{◌≡◌, ◌<◌, ◌-◌, ℕ, List, [], ◌∷◌, ◌++◌, length, take, drop, slice_get, get_or, not, true, Some, None, IsOk, IsSome, IfOk, OnOk, OnErr};
+ghost use Rattle.std.specs.Prelude.{◌≡◌, ◌<◌, ◌-◌, ◌||◌, nat_lt, ℕ, List, [], ◌∷◌, ◌++◌, length, take, drop, slice_get, get_or, not, true, Some, None, IsOk, IsSome, IfOk, OnOk, OnErr};
 ghost use Rattle.stream_tokens.specs.declared.Token.{Token as TheToken};
 ghost use Rattle.plays.specs.Net.{has_room};
 ghost use Rattle.plays.specs.Held.{Queued};
@@ -43,13 +43,6 @@ impl Queue {
         Ok(Queue { tokens, room })
     }
 
-    #[inline]
-    pub(crate) fn len(&self) -> usize
-        ensures { result ≡ length self.now.tokens }
-    {
-        self.tokens.len()
-    }
-
     /// Whether there is no room for another token.
     #[inline]
     pub(crate) fn is_full(&self) -> bool
@@ -59,6 +52,14 @@ impl Queue {
             Some(most) => self.tokens.len() >= most as usize,
             None => false,
         }
+    }
+
+    /// Whether there is no room for another token, or so many wait already.
+    #[inline]
+    pub(crate) fn is_held(&self, long: usize) -> bool
+        ensures { result ≡ not (has_room self.now.room (length self.now.tokens)) || not (nat_lt (length self.now.tokens) long) }
+    {
+        self.is_full() || self.tokens.len() >= long
     }
 
     /// The token that is taken next.

@@ -1,5 +1,5 @@
 -- The root, the products and the constants of a term: what is told of each prefix of one tree.
-use Rattle.std.specs.Prelude.{cond, Bool, None, true, ◌≡◌, ◌<◌, ◌≤◌, ℕ, suc, ◌*◌, ◌%◌, ◌^◌, Bool, List, [], ◌∷◌, length, take, Some, refl}
+use Rattle.std.specs.Prelude.{cond, Bool, None, true, ◌≡◌, ◌<◌, ◌≤◌, ℕ, suc, ◌*◌, ◌%◌, ◌^◌, List, [], ◌∷◌, length, take, Some, refl}
 use mathlib.Core.List.{map}
 use Rattle.std.proofs.Common.{arith, sym, ◌∙◌, ap, subst, mul-one}
 use Rattle.std.proofs.Math.Nat.{mod-mod}

@@ -1,6 +1,6 @@
 //! Events until no block has one.
 
-ghost use Rattle.std.specs.Prelude.{◌≡◌, ◌<◌, ◌≤◌, ◌^◌, ℕ, Option, List, [], ◌++◌, false, length, slice_get, Some, option_to_list, IfOk, IfErr};
+ghost use Rattle.std.specs.Prelude.{◌≡◌, ◌<◌, ◌≤◌, ◌^◌, ◌||◌, ℕ, Option, List, [], ◌++◌, false, length, slice_get, Some, option_to_list, IfOk, IfErr};
 ghost use Rattle.sam_model.specs.Children.{Ranked};
 ghost use Rattle.sam_base.specs.declared.faults.Waiting.{Waiting as Waits};
 ghost use Rattle.graph.specs.declared.graphs.Graph.{Graph};
@@ -10,6 +10,7 @@ ghost use Rattle.stepper.specs.AtState.{AtState, Wherever};
 ghost use Rattle.plays.specs.Told.{HasLists};
 ghost use Rattle.stepper.specs.Steps.{Wishes, SameShape};
 ghost use Rattle.stepper.specs.Runs.{Onwards};
+ghost use Rattle.stepper.specs.Bursting.{OnwardsBy};
 ghost use Rattle.stepper.specs.Endings.{waiting_for, waiting_list};
 
 use super::Machine;
@@ -17,12 +18,19 @@ use crate::tap::Tap;
 use block_core::{BlockStep, Wish};
 use sam_base::{Items, Waiting};
 use std::alloc::AllocError;
+use std::marker::Brand;
+use std::sync::ledger::{Blank, Ledger};
 
-/// How many events a block has in a row, at most.
-const BURST: u32 = 512;
-
-/// On a queue that is as long as this a block puts nothing more while another block can move.
+/// On a queue that is as long as this a block puts nothing more at first.
 const LONG: usize = 1024;
+
+/// Whether one of the two is true.
+#[inline]
+fn any_of(a: bool, b: bool) -> bool
+    ensures { result ≡ a || b }
+{
+    a || b
+}
 
 /// How a run ended.
 #[derive(Debug, Drop)]
@@ -50,111 +58,84 @@ impl<B: BlockStep + Drop> Machine<B> {
         self.plan.order[n] as usize
     }
 
-    /// Whether the block would put a token on a queue that is this long.
-    #[inline]
-    fn holds_back(&self, block: usize, wish: Wish, long: usize) -> bool
-        requires { Wishes B.kind B.stands block wish self.now }
-    {
-        match wish {
-            Wish::Put(port, _) => {
-                let channel = self.plan.outs.at(block, port);
-                self.queues[channel as usize].len() >= long
-            }
-            _ => false,
-        }
-    }
-
-    /// Some events of one block, while it can move and puts on no queue that is this long. The answer says whether there
-    /// was one.
-    fn burst<T: Tap>(&mut self, block: usize, long: usize, tap: &mut T) -> Result<bool, AllocError>
-        requires within { block < length self.old.blocks }
+    /// A burst of each block in turn, with no put on a queue that is this long. The answer says whether there was an event.
+    fn pass<T: Tap>(&mut self, long: usize, tap: &mut T) -> Result<bool, AllocError>
         requires lists { HasLists (length self.old.queues) (T.told tap.old) }
-        ensures onwards { Onwards B.kind B.stands self.old (T.told tap.old) self.new (T.told tap.new) }
-        ensures same_shape { SameShape self.old self.new }
-        ensures lists_stay { HasLists (length self.old.queues) (T.told tap.new) }
-    {
-        let mut moved = false;
-        for _ in 0..BURST {
-            let wish = self.wish(block);
-            if self.holds_back(block, wish, long) {
-                return Ok(moved);
-            }
-            if !self.attempt(block, wish, tap)? {
-                return Ok(moved);
-            }
-            moved = true;
-        }
-        Ok(moved)
-    }
-
-    /// A burst of each block in turn, while queues are short. The answer says whether there was an event.
-    fn pass<T: Tap>(&mut self, tap: &mut T) -> Result<bool, AllocError>
-        requires lists { HasLists (length self.old.queues) (T.told tap.old) }
-        ensures onwards { Onwards B.kind B.stands self.old (T.told tap.old) self.new (T.told tap.new) }
+        ensures onwards { IfOk result (λ moved. OnwardsBy B.BlockStep self.old (T.told tap.old) self.new (T.told tap.new) moved) }
+        ensures refused { IfErr result (λ _. OnwardsBy B.BlockStep self.old (T.told tap.old) self.new (T.told tap.new) false) }
         ensures same_shape { SameShape self.old self.new }
         ensures lists_stay { HasLists (length self.old.queues) (T.told tap.new) }
     {
         let mut moved = false;
         for n in 0..self.visits() {
             let block = self.visited(n);
-            let went = self.burst(block, LONG, tap)?;
-            moved = moved || went;
+            let went = self.burst(block, long, tap)?;
+            moved = any_of(moved, went);
         }
         Ok(moved)
     }
 
-    /// Events of one block, however long the queues are. The answer says whether it had one.
-    fn press<T: Tap>(&mut self, block: usize, tap: &mut T) -> Result<bool, AllocError>
-        requires within { block < length self.old.blocks }
+    /// An event of the first block that has one, however long the queues are. The answer says whether one has.
+    fn press<T: Tap>(&mut self, tap: &mut T) -> Result<bool, AllocError>
         requires lists { HasLists (length self.old.queues) (T.told tap.old) }
-        ensures onwards { Onwards B.kind B.stands self.old (T.told tap.old) self.new (T.told tap.new) }
-        ensures idle { result ≡ Ok false → (self.new ≡ self.old) × (T.told tap.new ≡ T.told tap.old) × Wherever B.kind B.stands self.old (λ net rooms s. can net rooms s block ≡ false) }
-        ensures same_shape { SameShape self.old self.new }
-        ensures lists_stay { HasLists (length self.old.queues) (T.told tap.new) }
-    {
-        if !self.turn(block, tap)? {
-            return Ok(false);
-        }
-        let _more = self.burst(block, usize::MAX, tap)?;
-        Ok(true)
-    }
-
-    /// Events of the first block that has one, however long the queues are. The answer says whether one has.
-    fn press_first<T: Tap>(&mut self, tap: &mut T) -> Result<bool, AllocError>
-        requires lists { HasLists (length self.old.queues) (T.told tap.old) }
-        ensures onwards { Onwards B.kind B.stands self.old (T.told tap.old) self.new (T.told tap.new) }
-        ensures idle { result ≡ Ok false → (self.new ≡ self.old) × (T.told tap.new ≡ T.told tap.old) × Wherever B.kind B.stands self.old Stuck }
+        ensures onwards { IfOk result (λ moved. OnwardsBy B.BlockStep self.old (T.told tap.old) self.new (T.told tap.new) moved) }
+        ensures refused { IfErr result (λ _. OnwardsBy B.BlockStep self.old (T.told tap.old) self.new (T.told tap.new) false) }
+        ensures stuck { result ≡ Ok false → Wherever B.BlockStep self.new Stuck }
         ensures same_shape { SameShape self.old self.new }
         ensures lists_stay { HasLists (length self.old.queues) (T.told tap.new) }
     {
         for n in 0..self.visits() {
             let block = self.visited(n);
-            if self.press(block, tap)? {
+            if self.turn(block, tap)? {
                 return Ok(true);
             }
         }
         Ok(false)
     }
 
-    /// Some events, where a block has one. The answer says whether one had.
-    fn advance<T: Tap>(&mut self, tap: &mut T) -> Result<bool, AllocError>
+    /// Some events, where a block has one. The answer says whether one had. Where no block has one while queues stay short,
+    /// they may be twice as long from now on.
+    fn advance<T: Tap>(&mut self, long: &mut usize, tap: &mut T) -> Result<bool, AllocError>
         requires lists { HasLists (length self.old.queues) (T.told tap.old) }
-        ensures onwards { Onwards B.kind B.stands self.old (T.told tap.old) self.new (T.told tap.new) }
-        ensures stuck { result ≡ Ok false → Wherever B.kind B.stands self.new Stuck }
+        ensures onwards { IfOk result (λ moved. OnwardsBy B.BlockStep self.old (T.told tap.old) self.new (T.told tap.new) moved) }
+        ensures refused { IfErr result (λ _. OnwardsBy B.BlockStep self.old (T.told tap.old) self.new (T.told tap.new) false) }
+        ensures stuck { result ≡ Ok false → Wherever B.BlockStep self.new Stuck }
         ensures same_shape { SameShape self.old self.new }
         ensures lists_stay { HasLists (length self.old.queues) (T.told tap.new) }
     {
-        if self.pass(tap)? {
+        if self.pass(*long, tap)? {
             return Ok(true);
         }
-        self.press_first(tap)
+        *long = long.saturating_mul(2);
+        self.press(tap)
+    }
+
+    /// Rounds of events until no block has one. Each round has an event, so they are fewer than all moves of the blocks; they
+    /// are counted without a byte.
+    fn run<T: Tap, L: Ledger>(&mut self, tap: &mut T, blank: Blank) -> Result<(), AllocError>
+        requires name { blank.name ≡ L.name }
+        requires parts { blank.parts ≡ L.parts }
+        requires some { 0 < L.parts }
+        requires lists { HasLists (length self.old.queues) (T.told tap.old) }
+        ensures onwards { Onwards B.BlockStep self.old (T.told tap.old) self.new (T.told tap.new) }
+        ensures stuck { IfOk result (λ _. Wherever B.BlockStep self.new Stuck) }
+        ensures same_shape { SameShape self.old self.new }
+        ensures lists_stay { HasLists (length self.old.queues) (T.told tap.new) }
+    {
+        self.stands();
+        let mut long = LONG;
+        let (mut rounds, mut share) = blank.open::<L>();
+        while self.advance(&mut long, tap)? {
+            rounds.add(&mut share, 1);
+        }
+        Ok(())
     }
 
     /// What an unfinished block waits for once no block can move.
     fn waits(&self, block: usize) -> Option<Waiting>
         requires within { block < length self.now.blocks }
         requires few { length self.now.blocks < 2 ^ 32 }
-        ensures { Wherever B.kind B.stands self.now (λ net rooms s. option_to_list result ≡ waiting_for net block (slice_get (net.moves block) (s block))) }
+        ensures { Wherever B.BlockStep self.now (λ net rooms s. option_to_list result ≡ waiting_for net block (slice_get (net.moves block) (s block))) }
     {
         match self.wish(block) {
             Wish::Take(port) => Some(Waiting {
@@ -173,7 +154,7 @@ impl<B: BlockStep + Drop> Machine<B> {
 
     /// The unfinished blocks in ascending order.
     fn waiting(&self) -> Result<Items<Waiting>, AllocError>
-        ensures { IfOk result (λ list. Wherever B.kind B.stands self.now (λ net rooms s. list ≡ waiting_list net s)) }
+        ensures { IfOk result (λ list. Wherever B.BlockStep self.now (λ net rooms s. list ≡ waiting_list net s)) }
     {
         let mut list = Items::new(*self.queues.allocator());
         for block in 0..self.blocks.len() {
@@ -186,8 +167,8 @@ impl<B: BlockStep + Drop> Machine<B> {
 
     /// How the run ended, once no block can move.
     fn ending(&self) -> Result<Ending, AllocError>
-        ensures finished { result ≡ Ok Ending.Finished → Wherever B.kind B.stands self.now (λ net rooms s. Finished net s) }
-        ensures stalled { (list : List Waits) → result ≡ Ok (Ending.Stalled list) → Wherever B.kind B.stands self.now (λ net rooms s. (list ≡ waiting_list net s) × (Finished net s → ⊥)) }
+        ensures finished { result ≡ Ok Ending.Finished → Wherever B.BlockStep self.now (λ net rooms s. Finished net s) }
+        ensures stalled { (list : List Waits) → result ≡ Ok (Ending.Stalled list) → Wherever B.BlockStep self.now (λ net rooms s. (list ≡ waiting_list net s) × (Finished net s → ⊥)) }
     {
         let list = self.waiting()?;
         if list.len() == 0 {
@@ -203,19 +184,15 @@ impl<B: BlockStep + Drop> Machine<B> {
     /// channel on which it waits. After want of memory the events so far stand.
     pub fn finish<T: Tap>(&mut self, tap: &mut T) -> Result<Ending, AllocError>
         requires { HasLists (length self.old.queues) (T.told tap.old) }
-        ensures onwards { Onwards B.kind B.stands self.old (T.told tap.old) self.new (T.told tap.new) }
-        ensures stuck { IfOk result (λ _. Wherever B.kind B.stands self.new Stuck) }
-        ensures finished { result ≡ Ok Ending.Finished → Wherever B.kind B.stands self.new (λ net rooms s. Finished net s) }
-        ensures blocks_end { result ≡ Ok Ending.Finished → (storages : List Ranked) (g : Graph) (caps : List (Option ℕ)) (s : State) → AtState B.kind B.stands storages g caps s self.new → StandAt B.kind B.stands storages g (final_position storages g) self.new.blocks }
-        ensures stalled { (list : List Waits) → result ≡ Ok (Ending.Stalled list) → Wherever B.kind B.stands self.new (λ net rooms s. (list ≡ waiting_list net s) × (Finished net s → ⊥)) }
+        ensures onwards { Onwards B.BlockStep self.old (T.told tap.old) self.new (T.told tap.new) }
+        ensures stuck { IfOk result (λ _. Wherever B.BlockStep self.new Stuck) }
+        ensures finished { result ≡ Ok Ending.Finished → Wherever B.BlockStep self.new (λ net rooms s. Finished net s) }
+        ensures blocks_end { result ≡ Ok Ending.Finished → (storages : List Ranked) (g : Graph) (caps : List (Option ℕ)) (s : State) → AtState B.BlockStep storages g caps s self.new → StandAt B.kind B.stands storages g (final_position storages g) self.new.blocks }
+        ensures stalled { (list : List Waits) → result ≡ Ok (Ending.Stalled list) → Wherever B.BlockStep self.new (λ net rooms s. (list ≡ waiting_list net s) × (Finished net s → ⊥)) }
         ensures same_shape { SameShape self.old self.new }
         ensures lists_stay { HasLists (length self.old.queues) (T.told tap.new) }
     {
-        for _ in 0..u64::MAX {
-            if !self.advance(tap)? {
-                return self.ending();
-            }
-        }
-        Err(AllocError)
+        self.run::<T, Brand>(tap, Blank::new(1))?;
+        self.ending()
     }
 }

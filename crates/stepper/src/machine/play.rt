@@ -18,8 +18,8 @@ impl<B: BlockStep + Drop> Machine<B> {
     pub fn play<T: Tap>(&mut self, schedule: &Nums, tap: &mut T) -> Result<(), AllocError>
         requires within { All (λ b. b < length self.old.blocks) schedule.now }
         requires lists { HasLists (length self.old.queues) (T.told tap.old) }
-        ensures played { IfOk result (λ _. Played B.kind B.stands schedule.now self.old (T.told tap.old) self.new (T.told tap.new)) }
-        ensures refused { IfErr result (λ _. PartPlayed B.kind B.stands schedule.now self.old (T.told tap.old) self.new (T.told tap.new)) }
+        ensures played { IfOk result (λ _. Played B.BlockStep schedule.now self.old (T.told tap.old) self.new (T.told tap.new)) }
+        ensures refused { IfErr result (λ _. PartPlayed B.BlockStep schedule.now self.old (T.told tap.old) self.new (T.told tap.new)) }
         ensures same_shape { SameShape self.old self.new }
         ensures lists_stay { HasLists (length self.old.queues) (T.told tap.new) }
     {

@@ -1,10 +1,11 @@
 //! One event of the machine.
 
-ghost use Rattle.std.specs.Prelude.{◌≡◌, ◌<◌, ◌+◌, ◌-◌, ◌^◌, min, ℕ, List, Bool, false, Option, Some, length, slice_get, IsOk, IfOk, IfErr};
+ghost use Rattle.std.specs.Prelude.{◌≡◌, ◌<◌, ◌+◌, ◌-◌, ◌^◌, min, ℕ, List, Bool, false, Option, Some, length, slice_get, IsOk, IsSome, IfOk, IfErr};
 ghost use Rattle.stream_tokens.specs.declared.Token.{Token};
 ghost use Rattle.block_core.specs.declared.Wish.TheVariants.{Take as WishTake, Put as WishPut};
+ghost use Rattle.plays.specs.Held.{at_port, Queued};
 ghost use Rattle.plays.specs.Told.{Tapped, HasLists};
-ghost use Rattle.stepper.specs.Steps.{Wishes, WaitsOn, HasEnded, Moved, SameShape, BoundedOuts};
+ghost use Rattle.stepper.specs.Steps.{Wishes, WaitsOn, HasEnded, Moved, SameShape, NeverRefuses, InPlaceSomewhere, MovesInPlace};
 ghost use Rattle.stepper.specs.Runs.{Turned};
 
 use super::{Machine, Stepped};
@@ -27,7 +28,7 @@ impl<B: BlockStep + Drop> Machine<B> {
     #[inline]
     pub(super) fn wish(&self, block: usize) -> Wish
         requires { block < length self.now.blocks }
-        ensures { Wishes B.kind B.stands block result self.now }
+        ensures { Wishes B.BlockStep block result self.now }
     {
         wish_at(&self.blocks, block)
     }
@@ -36,13 +37,13 @@ impl<B: BlockStep + Drop> Machine<B> {
     #[inline]
     fn take(&mut self, block: usize, port: u32) -> Result<Stepped, AllocError>
         requires within { block < length self.old.blocks }
-        requires wishes { Wishes B.kind B.stands block (WishTake port) self.old }
-        ensures moved { result ≡ Ok Stepped.Moved → (told : Tapped) → Moved B.kind B.stands block self.old told self.new told }
-        ensures blocked { (c : ℕ) (full : Bool) → result ≡ Ok (Stepped.Blocked c full) → (self.new ≡ self.old) × WaitsOn B.kind B.stands block c full self.old }
+        requires wishes { Wishes B.BlockStep block (WishTake port) self.old }
+        ensures moved { result ≡ Ok Stepped.Moved → (told : Tapped) → Moved B.BlockStep block self.old told self.new told }
+        ensures blocked { (c : ℕ) (full : Bool) → result ≡ Ok (Stepped.Blocked c full) → (self.new ≡ self.old) × WaitsOn B.BlockStep block c full self.old }
         ensures no_end { result ≡ Ok Stepped.Ended → ⊥ }
         ensures refused { IfErr result (λ _. self.new ≡ self.old) }
         ensures same_shape { SameShape self.old self.new }
-        ensures sure { ((x : B) → slice_get self.old.blocks block ≡ Some x → B.may_refuse x ≡ false) → IsOk result }
+        ensures sure { NeverRefuses B.BlockStep block self.old → IsOk result }
     {
         let channel = self.plan.ins.at(block, port);
         let place = channel as usize;
@@ -68,16 +69,16 @@ impl<B: BlockStep + Drop> Machine<B> {
         tap: &mut T,
     ) -> Result<Stepped, AllocError>
         requires within { block < length self.old.blocks }
-        requires wishes { Wishes B.kind B.stands block (WishPut port t) self.old }
+        requires wishes { Wishes B.BlockStep block (WishPut port t) self.old }
         requires lists { HasLists (length self.old.queues) (T.told tap.old) }
-        ensures moved { result ≡ Ok Stepped.Moved → Moved B.kind B.stands block self.old (T.told tap.old) self.new (T.told tap.new) }
-        ensures blocked { (c : ℕ) (full : Bool) → result ≡ Ok (Stepped.Blocked c full) → (self.new ≡ self.old) × (T.told tap.new ≡ T.told tap.old) × WaitsOn B.kind B.stands block c full self.old }
+        ensures moved { result ≡ Ok Stepped.Moved → Moved B.BlockStep block self.old (T.told tap.old) self.new (T.told tap.new) }
+        ensures blocked { (c : ℕ) (full : Bool) → result ≡ Ok (Stepped.Blocked c full) → (self.new ≡ self.old) × (T.told tap.new ≡ T.told tap.old) × WaitsOn B.BlockStep block c full self.old }
         ensures no_end { result ≡ Ok Stepped.Ended → ⊥ }
         ensures refused { IfErr result (λ _. (self.new ≡ self.old) × (T.told tap.new ≡ T.told tap.old)) }
         ensures same_shape { SameShape self.old self.new }
         ensures lists_stay { HasLists (length self.old.queues) (T.told tap.new) }
         ensures same_refusal { T.may_refuse tap.new ≡ T.may_refuse tap.old }
-        ensures sure { BoundedOuts block self.old → T.may_refuse tap.old ≡ false → IsOk result }
+        ensures sure { ((q : Queued) → slice_get self.old.queues (at_port self.old.routes.outs block port) ≡ Some q → IsSome q.room) → T.may_refuse tap.old ≡ false → IsOk result }
     {
         let channel = self.plan.outs.at(block, port);
         let place = channel as usize;
@@ -107,16 +108,16 @@ impl<B: BlockStep + Drop> Machine<B> {
         tap: &mut T,
     ) -> Result<Stepped, AllocError>
         requires within { block < length self.old.blocks }
-        requires wishes { Wishes B.kind B.stands block wish self.old }
+        requires wishes { Wishes B.BlockStep block wish self.old }
         requires lists { HasLists (length self.old.queues) (T.told tap.old) }
-        ensures moved { result ≡ Ok Stepped.Moved → Moved B.kind B.stands block self.old (T.told tap.old) self.new (T.told tap.new) }
-        ensures blocked { (c : ℕ) (full : Bool) → result ≡ Ok (Stepped.Blocked c full) → (self.new ≡ self.old) × (T.told tap.new ≡ T.told tap.old) × WaitsOn B.kind B.stands block c full self.old }
-        ensures ended { result ≡ Ok Stepped.Ended → (self.new ≡ self.old) × (T.told tap.new ≡ T.told tap.old) × HasEnded B.kind B.stands block self.old }
+        ensures moved { result ≡ Ok Stepped.Moved → Moved B.BlockStep block self.old (T.told tap.old) self.new (T.told tap.new) }
+        ensures blocked { (c : ℕ) (full : Bool) → result ≡ Ok (Stepped.Blocked c full) → (self.new ≡ self.old) × (T.told tap.new ≡ T.told tap.old) × WaitsOn B.BlockStep block c full self.old }
+        ensures ended { result ≡ Ok Stepped.Ended → (self.new ≡ self.old) × (T.told tap.new ≡ T.told tap.old) × HasEnded B.BlockStep block self.old }
         ensures refused { IfErr result (λ _. (self.new ≡ self.old) × (T.told tap.new ≡ T.told tap.old)) }
         ensures same_shape { SameShape self.old self.new }
         ensures lists_stay { HasLists (length self.old.queues) (T.told tap.new) }
         ensures same_refusal { T.may_refuse tap.new ≡ T.may_refuse tap.old }
-        ensures sure { ((x : B) → slice_get self.old.blocks block ≡ Some x → B.may_refuse x ≡ false) → BoundedOuts block self.old → T.may_refuse tap.old ≡ false → IsOk result }
+        ensures sure { ∥ (InPlaceSomewhere B.BlockStep block (T.may_refuse tap.old) self.old) ∥₁ → IsOk result }
     {
         match wish {
             Wish::Take(port) => self.take(block, port),
@@ -129,19 +130,20 @@ impl<B: BlockStep + Drop> Machine<B> {
     ///
     /// `Blocked` tells the channel of the block's next move: it is full where the block would put, and else empty. After
     /// `Blocked`, `Ended` and want of memory the machine and the tap are as before. There is no want of memory where the
-    /// block and the tap never refuse and the channels on which the block puts have a capacity.
+    /// next move is a take by a block that never refuses, or a put on a channel with a capacity while the tap never refuses.
     pub fn step<T: Tap>(&mut self, block: u32, tap: &mut T) -> Result<Stepped, AllocError>
         requires within { block < length self.old.blocks }
         requires lists { HasLists (length self.old.queues) (T.told tap.old) }
-        ensures moved { result ≡ Ok Stepped.Moved → Moved B.kind B.stands block self.old (T.told tap.old) self.new (T.told tap.new) }
-        ensures blocked { (c : ℕ) (full : Bool) → result ≡ Ok (Stepped.Blocked c full) → (self.new ≡ self.old) × (T.told tap.new ≡ T.told tap.old) × WaitsOn B.kind B.stands block c full self.old }
-        ensures ended { result ≡ Ok Stepped.Ended → (self.new ≡ self.old) × (T.told tap.new ≡ T.told tap.old) × HasEnded B.kind B.stands block self.old }
+        ensures moved { result ≡ Ok Stepped.Moved → Moved B.BlockStep block self.old (T.told tap.old) self.new (T.told tap.new) }
+        ensures blocked { (c : ℕ) (full : Bool) → result ≡ Ok (Stepped.Blocked c full) → (self.new ≡ self.old) × (T.told tap.new ≡ T.told tap.old) × WaitsOn B.BlockStep block c full self.old }
+        ensures ended { result ≡ Ok Stepped.Ended → (self.new ≡ self.old) × (T.told tap.new ≡ T.told tap.old) × HasEnded B.BlockStep block self.old }
         ensures refused { IfErr result (λ _. (self.new ≡ self.old) × (T.told tap.new ≡ T.told tap.old)) }
         ensures same_shape { SameShape self.old self.new }
         ensures lists_stay { HasLists (length self.old.queues) (T.told tap.new) }
         ensures same_refusal { T.may_refuse tap.new ≡ T.may_refuse tap.old }
-        ensures sure { ((x : B) → slice_get self.old.blocks block ≡ Some x → B.may_refuse x ≡ false) → BoundedOuts block self.old → T.may_refuse tap.old ≡ false → IsOk result }
+        ensures sure { MovesInPlace B.BlockStep block (T.may_refuse tap.old) self.old → IsOk result }
     {
+        self.stands();
         let place = block as usize;
         let wish = self.wish(place);
         self.act(place, wish, tap)
@@ -156,9 +158,9 @@ impl<B: BlockStep + Drop> Machine<B> {
         tap: &mut T,
     ) -> Result<bool, AllocError>
         requires within { block < length self.old.blocks }
-        requires wishes { Wishes B.kind B.stands block wish self.old }
+        requires wishes { Wishes B.BlockStep block wish self.old }
         requires lists { HasLists (length self.old.queues) (T.told tap.old) }
-        ensures turned { IfOk result (λ moved. Turned B.kind B.stands block moved self.old (T.told tap.old) self.new (T.told tap.new)) }
+        ensures turned { IfOk result (λ moved. Turned B.BlockStep block moved self.old (T.told tap.old) self.new (T.told tap.new)) }
         ensures idle { result ≡ Ok false → (self.new ≡ self.old) × (T.told tap.new ≡ T.told tap.old) }
         ensures refused { IfErr result (λ _. (self.new ≡ self.old) × (T.told tap.new ≡ T.told tap.old)) }
         ensures same_shape { SameShape self.old self.new }
@@ -176,7 +178,7 @@ impl<B: BlockStep + Drop> Machine<B> {
     pub(super) fn turn<T: Tap>(&mut self, block: usize, tap: &mut T) -> Result<bool, AllocError>
         requires within { block < length self.old.blocks }
         requires lists { HasLists (length self.old.queues) (T.told tap.old) }
-        ensures turned { IfOk result (λ moved. Turned B.kind B.stands block moved self.old (T.told tap.old) self.new (T.told tap.new)) }
+        ensures turned { IfOk result (λ moved. Turned B.BlockStep block moved self.old (T.told tap.old) self.new (T.told tap.new)) }
         ensures idle { result ≡ Ok false → (self.new ≡ self.old) × (T.told tap.new ≡ T.told tap.old) }
         ensures refused { IfErr result (λ _. (self.new ≡ self.old) × (T.told tap.new ≡ T.told tap.old)) }
         ensures same_shape { SameShape self.old self.new }

@@ -3,7 +3,7 @@ use Rattle.std.proofs.lemmas.Option.{slice_get_read}
 use Rattle.plays.specs.Net.{has_room}
 use Rattle.plays.specs.Held.{Queued}
 use Rattle.plays.proofs.Lists.{same_some, get_set_here}
-use Rattle.plays.proofs.Tellings.{not_full, put_back}
+use Rattle.plays.proofs.Tellings.{neither, not_full, put_back}
 use Rattle.plays.proofs.Rests.{pushed, made_same, same_made}
 use Rattle.plays.proofs.Relays.{relay_in_port, relay_in_queue, relay_out_port, relay_out_queue, relay_lists, relay_apart, made_relay, relay_waits, relay_same, still_there}
 use Rattle.stepper.proofs.ends.Ends.relay_one.Goals as goal
@@ -21,7 +21,7 @@ pub push_at-requires-clause-room : goal.push_at-requires-clause-room
 push_at-requires-clause-room g c = λ x at.
     let q = slice_get_read c.args.self.now.queues.now.items _ (get_or c.args.self.now.outs.now c.args.to 0) c.index.result.now refl (relay_out_queue _ c.args.from c.args.to c.args.t c.requires.may) c.index.ensures in
     let e : c.index.result.now ≡ x = same_some _ x (sym q ∙ at) in
-    subst (λ (z : Queued). has_room z.room (length z.tokens) ≡ true) e (not_full _ (sym c.is_full.ensures ∙ c.if-is_full.false))
+    subst (λ (z : Queued). has_room z.room (length z.tokens) ≡ true) e (not_full _ (neither _ _ (sym c.is_held.ensures ∙ c.if-is_held.false)))
 
 pub on_put-told-requires : goal.on_put-told-requires
 on_put-told-requires g c = relay_lists _ c.args.from c.args.to c.args.t c.requires.may
@@ -68,7 +68,7 @@ returns-clause-relayed g c = λ z u first.
     let eq1 = c.in_ok-push_at.ensures.ok c.index.result.now q in
     let still = still_there (record { queues = c.args.self.now.queues.now.items; told = g.T.Tap.told c.args.self.now.tap.now; moves = c.args.self.now.moves; block = c.args.self.now.block; ins = c.args.self.now.ins.now; outs = c.args.self.now.outs.now }) c.args.from c.args.to (pushed c.index.result.now c.args.t) c.push_at.new.queues.items apart lc eq1 in
     let eq2 = c.pop_at.ensures.left _ still in
-    made_relay (record { queues = c.args.self.now.queues.now.items; told = g.T.Tap.told c.args.self.now.tap.now; moves = c.args.self.now.moves; block = c.args.self.now.block; ins = c.args.self.now.ins.now; outs = c.args.self.now.outs.now }) c.args.from c.args.to u c.args.t c.push_at.new.queues.items _ _ _ _ c.index.result.now first apart lc q (sym c.is_full.ensures ∙ c.if-is_full.false) eq1 eq2
+    made_relay (record { queues = c.args.self.now.queues.now.items; told = g.T.Tap.told c.args.self.now.tap.now; moves = c.args.self.now.moves; block = c.args.self.now.block; ins = c.args.self.now.ins.now; outs = c.args.self.now.outs.now }) c.args.from c.args.to u c.args.t c.push_at.new.queues.items _ _ _ _ c.index.result.now first apart lc q (neither _ _ (sym c.is_held.ensures ∙ c.if-is_held.false)) eq1 eq2
     c.in_default.ensures.ok c.one_more.ensures c.one_more-self.ensures
 
 pub returns-clause-left : goal.returns-clause-left

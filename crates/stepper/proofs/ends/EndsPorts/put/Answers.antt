@@ -3,7 +3,7 @@ use Rattle.std.proofs.lemmas.Option.{slice_get_read}
 use Rattle.plays.specs.Net.{has_room}
 use Rattle.plays.specs.Held.{Queued}
 use Rattle.plays.proofs.Lists.{same_some, get_set_here}
-use Rattle.plays.proofs.Tellings.{not_full, put_back}
+use Rattle.plays.proofs.Tellings.{neither, not_full, put_back}
 use Rattle.plays.proofs.Rests.{output_port, output_queue, put_lists, made_put, made_same, same_made}
 use Rattle.stepper.proofs.ends.EndsPorts.put.Goals as goal
 
@@ -20,7 +20,7 @@ pub push_at-requires-clause-room : goal.push_at-requires-clause-room
 push_at-requires-clause-room g c = λ x at.
     let q = slice_get_read c.args.self.now.queues.now.items _ (get_or c.args.self.now.outs.now c.args.port 0) c.index.result.now refl (output_queue _ c.args.port c.args.t c.requires) c.index.ensures in
     let e : c.index.result.now ≡ x = same_some _ x (sym q ∙ at) in
-    subst (λ (z : Queued). has_room z.room (length z.tokens) ≡ true) e (not_full _ (sym c.is_full.ensures ∙ c.if-is_full.false))
+    subst (λ (z : Queued). has_room z.room (length z.tokens) ≡ true) e (not_full _ (neither _ _ (sym c.is_held.ensures ∙ c.if-is_held.false)))
 
 pub on_put-told-requires : goal.on_put-told-requires
 on_put-told-requires g c = put_lists _ c.args.port c.args.t c.requires
@@ -56,7 +56,7 @@ pub returns-clause-put : goal.returns-clause-put
 returns-clause-put g c = λ z.
     let l = output_queue _ c.args.port c.args.t c.requires in
     let q = slice_get_read c.args.self.now.queues.now.items _ (get_or c.args.self.now.outs.now c.args.port 0) c.index.result.now refl l c.index.ensures in
-    made_put _ c.args.port c.args.t _ _ _ c.index.result.now q (sym c.is_full.ensures ∙ c.if-is_full.false)
+    made_put _ c.args.port c.args.t _ _ _ c.index.result.now q (neither _ _ (sym c.is_held.ensures ∙ c.if-is_held.false))
     (c.in_ok-push_at.ensures.ok c.index.result.now q) c.in_default.ensures.ok c.one_more-self.ensures
 
 pub returns-clause-same_ends : goal.returns-clause-same_ends
@@ -65,6 +65,6 @@ returns-clause-same_ends g c =
     let q = slice_get_read c.args.self.now.queues.now.items _ (get_or c.args.self.now.outs.now c.args.port 0) c.index.result.now refl l c.index.ensures in (
       refl,
       refl,
-      same_made _ _ _ (made_put _ c.args.port c.args.t _ _ _ c.index.result.now q (sym c.is_full.ensures ∙ c.if-is_full.false)
+      same_made _ _ _ (made_put _ c.args.port c.args.t _ _ _ c.index.result.now q (neither _ _ (sym c.is_held.ensures ∙ c.if-is_held.false))
           (c.in_ok-push_at.ensures.ok c.index.result.now q) c.in_default.ensures.ok c.one_more-self.ensures),
     )

@@ -13,7 +13,7 @@ turn-requires-clause-within g c =
 
 pub loop-block-preserved : goal.loop-block-preserved
 loop-block-preserved g c = (
-  played_more g.B.BlockStep.kind g.B.BlockStep.stands c.as_slice-block-items.result.now c.loop-block.block-index c.in_ok-_moved._moved
+  played_more g.B.BlockStep c.as_slice-block-items.result.now c.loop-block.block-index c.in_ok-_moved._moved
       c.args.self.now (g.T.Tap.told c.args.tap.now) c.loop-block.self (g.T.Tap.told c.loop-block.tap) c.turn.new.self (g.T.Tap.told c.turn.new.tap)
       c.loop-block-test.true c.loop-block.invariant.0 c.in_ok-_moved.ensures.turned,
   shape_then c.args.self.now c.loop-block.self c.turn.new.self c.loop-block.invariant.1 c.turn.ensures.same_shape,

@@ -4,6 +4,6 @@ use Rattle.stepper.proofs.machine.Machine.waiting.Goals as goal
 
 pub waits-requires-clause-few : goal.waits-requires-clause-few
 waits-requires-clause-few g c =
-    let l = few_blocks g.B.BlockStep.kind g.B.BlockStep.stands _ c.self.invariant in
+    let l = few_blocks g.B.BlockStep _ c.self.invariant in
     let e = ap (λ m. length m.blocks) c.self.view_is in
     omega (arith, l, e)

@@ -5,4 +5,4 @@ use Rattle.stepper.proofs.machine.Machine.waiting.Given as goal
 
 abbrev pub invariant-loop-block : goal.invariant-loop-block
 invariant-loop-block g l =
-    Wherever g.B.BlockStep.kind g.B.BlockStep.stands l.self (λ net rooms s. l.list ≡ waiting_below net s l.block)
+    Wherever g.B.BlockStep l.self (λ net rooms s. l.list ≡ waiting_below net s l.block)

@@ -12,17 +12,17 @@ use block_core::BlockStep;
 use std::alloc::AllocError;
 
 impl<B: BlockStep + Drop> Machine<B> {
-    /// Some events of one block, at most so many. The answer says whether there was one.
-    pub(crate) fn pour<T: Tap>(
+    /// Some events of one block, with no put on a queue that is this long. The answer says whether there was one.
+    pub(super) fn burst<T: Tap>(
         &mut self,
         block: usize,
-        most: u32,
+        long: usize,
         tap: &mut T,
     ) -> Result<bool, AllocError>
         requires within { block < length self.old.blocks }
         requires lists { HasLists (length self.old.queues) (T.told tap.old) }
-        ensures onwards { IfOk result (λ went. OnwardsBy B.kind B.stands self.old (T.told tap.old) self.new (T.told tap.new) went) }
-        ensures refused { IfErr result (λ _. OnwardsBy B.kind B.stands self.old (T.told tap.old) self.new (T.told tap.new) false) }
+        ensures onwards { IfOk result (λ went. OnwardsBy B.BlockStep self.old (T.told tap.old) self.new (T.told tap.new) went) }
+        ensures refused { IfErr result (λ _. OnwardsBy B.BlockStep self.old (T.told tap.old) self.new (T.told tap.new) false) }
         ensures same_shape { SameShape self.old self.new }
         ensures lists_stay { HasLists (length self.old.queues) (T.told tap.new) }
     {
@@ -36,7 +36,7 @@ impl<B: BlockStep + Drop> Machine<B> {
             block,
             ins,
             outs,
-            most,
+            long,
         )
     }
 }
