@@ -1,6 +1,6 @@
 //! The machine on the graph of the product of two vectors.
 
-ghost use Rattle.std.specs.Prelude.{◌≡◌, ◌≤◌, List, true, length, IfOk};
+ghost use Rattle.std.specs.Prelude.{◌≡◌, ◌<◌, ◌≤◌, List, true, length, All, IfOk};
 ghost use Rattle.sam_model.specs.declared.tensors.Entries.{Entries};
 ghost use Rattle.sam_model.specs.Accepted.{accepted};
 ghost use Rattle.inputs.specs.Tensors.{AreStored};
@@ -11,9 +11,9 @@ use inputs::{program, storages};
 use any_block::{AnyBlock, assemble};
 use custard_lower::lower;
 use levels::Storage;
-use sam_base::Items;
+use sam_base::{Items, Nums};
 use sam_model::Program;
-use std::alloc::Global;
+use std::alloc::{AllocError, Global};
 use std::test::Fail;
 use stepper::{Capacities, Ending, KeepAll, Machine, NoTap, Stepped};
 use stream_tokens::Token::{Done, Item, Stop};
@@ -87,6 +87,35 @@ fn streams(alloc: Global) -> Result<KeepAll, Fail>
     let mut tap = KeepAll::new(alloc, 15)?;
     let _ending = run.finish(&mut tap)?;
     Ok(tap)
+}
+
+/// Three turns of the cast after one of the root; then the intersecter, which has nothing to take yet.
+fn first_turns(alloc: Global) -> Result<Nums, AllocError>
+    ensures { IfOk result (λ schedule. All (λ b. b < 11) schedule) }
+{
+    Ok(Nums::from_vec(vec![in alloc; 0, 10, 10, 10, 3]?))
+}
+
+/// The number of events of these turns, and what they put.
+fn played(alloc: Global) -> Result<(u64, KeepAll), Fail>
+    ensures { IfOk result (λ played. 15 ≤ length played.1) }
+{
+    let (program, storages) = product(alloc)?;
+    let mut run = machine(alloc, &program, storages.as_slice(), Some(1))?;
+    let mut tap = KeepAll::new(alloc, 15)?;
+    let schedule = first_turns(alloc)?;
+    run.play(&schedule, &mut tap)?;
+    Ok((run.moves(), tap))
+}
+
+#[test]
+fn a_schedule_is_played(rt: HostRuntime) -> Result<(), Fail> {
+    let (moves, keep) = played(rt.alloc())?;
+    assert_eq!(rt; moves, 4);
+    for (channel, sent) in [(0, 1), (1, 0), (5, 0), (13, 1), (14, 1)] {
+        assert_eq!(rt; keep.stream(channel).len(), sent, "channel {channel}");
+    }
+    Ok(())
 }
 
 #[test]
