@@ -15,7 +15,7 @@ use Rattle.graph.specs.Standing.{StandAt, start_position}
 
 -- a block of this kind, at its start on whole inputs that fit
 pub record IsNew {B : Type 0} (kind : B → Kind) (stands : B → Streams → ℕ → Type 0) (k : Kind) (x : B) : Type 0 where
-  pub same-kind : kind x ≡ k
+  pub same_kind : kind x ≡ k
   pub starts : StandsAtStart (stands x) k
 
 -- the blocks for the first n of a graph

@@ -34,7 +34,7 @@ is_value-writer other e = absurd (cc)
 
 -- a block at the end of its moves, of a kind that is known
 pub record Ended {B : Type 0} (kind : B → Kind) (stands : B → Streams → ℕ → Type 0) (x : B) (k : Kind) (s : Streams) : Type 0 where
-  pub same-kind : kind x ≡ k
+  pub same_kind : kind x ≡ k
   pub through : stands x s (length (moves k s))
 
 module _ {B : Type 0} (kind_of : B → Kind) (stands : B → Streams → ℕ → Type 0) (storages : List Ranked) (g : Graph) (blocks : List B)
@@ -48,7 +48,7 @@ module _ {B : Type 0} (kind_of : B → Kind) (stands : B → Streams → ℕ →
       let inside : b < length g.blocks = subst (λ (n : ℕ). b < n) h.number (slice_get_within blocks b x at) in
       let is : (block g b).kind ≡ k = only (block g b).kind (passes_at_first (λ (y : Block). test y.kind) g.blocks no_block inside) in
       let P : BlockKind → Type 0 = λ y. Ended kind_of stands x (meaning storages y) (whole_inputs storages g b) in
-      subst P is (record { same-kind = h.kinds b x at; through = h.placed b x at })
+      subst P is (record { same_kind = h.kinds b x at; through = h.placed b x at })
 
   pub level-ended : (d : ℕ) (x : B) → slice_get blocks (first_block (writes_level d) g) ≡ Some x
       → Ended kind_of stands x (WriteLevelKind d) (whole_inputs storages g (first_block (writes_level d) g))

@@ -72,10 +72,8 @@ pub fn assemble<'a>(
     requires few { FewPayloads g.now }
     ensures number { IfOk result (λ blocks. length blocks.items ≡ length g.now.blocks) }
     ensures kinds { IfOk result (λ blocks. (b : ℕ) (x : AnyBlock) → slice_get blocks.items b ≡ Some x → ⟦<AnyBlock<'a> as BlockStep>⟧.kind x ≡ meaning storages.now (block g.now b).kind) }
-    ensures any_inputs {
-        IfOk result (λ blocks. (b : ℕ) (x : AnyBlock) → slice_get blocks.items b ≡ Some x
-            → StandsAtStart (⟦<AnyBlock<'a> as BlockStep>⟧.stands x) (meaning storages.now (block g.now b).kind))
-    }
+    ensures any_inputs { IfOk result (λ blocks. (b : ℕ) (x : AnyBlock) → slice_get blocks.items b ≡ Some x
+        → StandsAtStart (⟦<AnyBlock<'a> as BlockStep>⟧.stands x) (meaning storages.now (block g.now b).kind)) }
     ensures starts { IfOk result (λ blocks. Consistent storages.now g.now → StandAt ⟦<AnyBlock<'a> as BlockStep>⟧.kind ⟦<AnyBlock<'a> as BlockStep>⟧.stands storages.now g.now start_position blocks.items) }
 {
     let mut blocks = Vec::with_capacity(alloc, g.blocks.len())?;
