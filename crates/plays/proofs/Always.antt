@@ -149,12 +149,6 @@ event_kept net rooms w s b k h =
       room = λ c l. (at c l).1;
     }
 
-pub turn_kept : (net : Net) (rooms : Rooms) (s : State) (b : ℕ) → Wired net → WithinBounds net rooms s → WithinBounds net rooms (turn net rooms s b)
-turn_kept net rooms s b w k = turn_keeps (WithinBounds net rooms) net rooms (event_kept net rooms w) s b k
-
-pub play_kept : (net : Net) (rooms : Rooms) (s : State) (schedule : List ℕ) → Wired net → WithinBounds net rooms s → WithinBounds net rooms (play net rooms s schedule)
-play_kept net rooms s schedule w k = play_keeps (WithinBounds net rooms) net rooms (event_kept net rooms w) s schedule k
-
 fits_none : (o : Option ℕ) → WithinLimit o 0
 fits_none None = tt
 fits_none (Some room) = omega arith

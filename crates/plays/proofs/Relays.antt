@@ -17,9 +17,6 @@ use Rattle.plays.proofs.Lists.{same_some, some_in, get_set_here, get_set_there}
 use Rattle.plays.proofs.Tellings.{lists_put, lists_fewer}
 use Rattle.plays.proofs.Rests.{made_none, made_then, fed_made, next_at, input_port, input_queue, some_read, read_some, popped, pushed, made_take, made_put, has_lists_prop}
 
-pub relay_none : (e : BlockEnds) (from to : ℕ) (us : List Token) → (0 ≤ length us) × MadeAt e (relayed from to (take 0 (waits_at e from)) (take 0 us)) e
-relay_none e from to us = (omega arith, made_none e)
-
 -- ---- a token taken and another put for it
 
 second_at : (e : BlockEnds) (net : Net) (s : State) (m m' : Move) (rest : List Move) → drop (s e.block) (net.moves e.block) ≡ m ∷ m' ∷ rest

@@ -1,13 +1,12 @@
 -- The tables of ports, and the queues before the first event.
-use Rattle.std.specs.Prelude.{◌≡◌, ◌<◌, ℕ, ◌+◌, ◌-◌, ◌^◌, min, List, [], ◌∷◌, ◌++◌, length, slice_get, get_or, All, Option, Some, None}
+use Rattle.std.specs.Prelude.{◌≡◌, ◌<◌, ℕ, ◌+◌, ◌-◌, ◌^◌, min, List, [], ◌∷◌, ◌++◌, length, slice_get, get_or, Option, Some, None}
 use Rattle.std.proofs.Common.{arith, sym, ◌∙◌, ap, subst, inl, inr, length-append}
 use Rattle.std.proofs.lemmas.Bool.{cases_lt}
 use Rattle.std.proofs.lemmas.List.{get_or_append_left, get_or-append-add}
-use Rattle.std.proofs.lemmas.List.Elements.{All-from_get_or}
 use Rattle.sam_model.specs.Children.{Ranked}
 use Rattle.block_core.specs.declared.BlockStep.{Ghosts}
 use Rattle.graph.specs.declared.graphs.Graph.{Graph}
-use Rattle.graph.specs.Wiring.{block, WellFormed}
+use Rattle.graph.specs.Wiring.{WellFormed}
 use Rattle.graph.specs.WholeStreams.{Consistent}
 use Rattle.graph.specs.Standing.{StandAt, start_position}
 use Rattle.plays.specs.Net.{Waits, start}
@@ -17,13 +16,6 @@ use Rattle.plays.proofs.Always.{start_kept}
 use Rattle.plays.specs.Held.{Table, Queued, Held}
 use Rattle.stepper.specs.NetOf.{net_of, rooms_of}
 use Rattle.stepper.specs.AtState.{PortsListed, Routed, AtState}
-
-pub lists_none : (t : Table) (row : ℕ → List ℕ) → t.first ≡ [] → PortsListed t 0 row
-lists_none t row e = record {
-  blocks = ap (λ (z : List ℕ). length z) e;
-  within = λ b p l k. absurd (omega (arith, l));
-  same = λ b p l k. absurd (omega (arith, l));
-}
 
 -- a block more
 pub lists_more : (t u : Table) (n : ℕ) (row : ℕ → List ℕ) (cs : List ℕ) → PortsListed t n row → cs ≡ row n
@@ -62,13 +54,6 @@ lists_more t u n row cs h e first channels =
             ∙ ap (λ (z : List ℕ). get_or z p 0) (e ∙ ap row (sym at))
       ];
     }
-
--- channels are numbered below 2^32
-pub ins_small : (g : Graph) → WellFormed g → length g.channels < 2 ^ 32 → (b : ℕ) → b < length g.blocks → All (λ c. c < 2 ^ 32) (block g b).ins
-ins_small g w few b l = All-from_get_or (λ c. c < 2 ^ 32) (block g b).ins 0 (λ p k. let i = w.in_named b p l k in let j = i.0 in omega (arith, j, few))
-
-pub outs_small : (g : Graph) → WellFormed g → length g.channels < 2 ^ 32 → (b : ℕ) → b < length g.blocks → All (λ c. c < 2 ^ 32) (block g b).outs
-outs_small g w few b l = All-from_get_or (λ c. c < 2 ^ 32) (block g b).outs 0 (λ p k. let i = w.out_named b p l k in let j = i.0 in omega (arith, j, few))
 
 -- a machine whose queues are empty step.stands at the start
 pub starts_at : {B : Type 0} (step : Ghosts B) (storages : List Ranked) (g : Graph) (caps : List (Option ℕ)) (m : Held B)

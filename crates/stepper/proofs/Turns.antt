@@ -13,7 +13,7 @@ use Rattle.stepper.specs.NetOf.{net_of, rooms_of}
 use Rattle.stepper.specs.AtState.{AtState, Wherever}
 use Rattle.plays.specs.Told.{Tapped, Grew, HasLists}
 use Rattle.stepper.specs.Steps.{WaitsOn, HasEnded, Moved, SameShape, hindrance, hindrance_of}
-use Rattle.stepper.specs.Runs.{Played, Turned, Onwards}
+use Rattle.stepper.specs.Runs.{Played, Turned}
 
 -- ---- a block that has to wait, or is through, has no event
 
@@ -70,9 +70,6 @@ module _ {B : Type 0} (step : Ghosts B) where
 
   -- ---- a schedule
 
-  pub played_none : (m : Held B) (told : Tapped) → Played step [] m told m told
-  played_none m told storages g caps s h = (h, grew_same (net_of storages g) s told)
-
   -- one turn more of a schedule
   pub played_more : (bs : List ℕ) (i : ℕ) (moved : Bool) (m : Held B) (told : Tapped) (m' : Held B) (told' : Tapped) (m'' : Held B) (told'' : Tapped)
       → i < length bs
@@ -99,38 +96,9 @@ shape_then x y z a b = (b.0 ∙ a.0, b.1 ∙ a.1, b.2 ∙ a.2)
 pub lists_same : (n m : ℕ) (told : Tapped) → m ≡ n → HasLists m told → HasLists n told
 lists_same n m told e h = subst (λ k. HasLists k told) e h
 
--- ---- events
+-- ---- a pass
 
 module _ {B : Type 0} (step : Ghosts B) where
-  pub onwards_none : (m : Held B) (told : Tapped) → Onwards step m told m told
-  onwards_none m told storages g caps s h = (s, ([], refl), h, grew_same (net_of storages g) s told)
-
-  pub onwards_same : (m : Held B) (told : Tapped) (m' : Held B) (told' : Tapped) → (m' ≡ m) × (told' ≡ told) → Onwards step m told m' told'
-  onwards_same m told m' told' e = subst (λ z. Onwards step m told z told') (sym e.0) (subst (Onwards step m told m) (sym e.1) (onwards_none m told))
-
-  pub onwards_then : (m : Held B) (told : Tapped) (m' : Held B) (told' : Tapped) (m'' : Held B) (told'' : Tapped)
-      → Onwards step m told m' told' → Onwards step m' told' m'' told'' → Onwards step m told m'' told''
-  onwards_then m told m' told' m'' told'' first next storages g caps s h =
-      let net = net_of storages g in
-      let rooms = rooms_of caps in
-      let p = first storages g caps s h in
-      let q = next storages g caps p.0 p.2 in (
-        q.0,
-        (p.1.0 ++ q.1.0, q.1.1 ∙ ap (λ (x : State). play net rooms x q.1.0) p.1.1 ∙ sym (play_append net rooms s p.1.0 q.1.0)),
-        q.2,
-        grew_then net s p.0 q.0 told told' told'' p.3 q.3,
-      )
-
-  pub onwards_turned : (b : ℕ) (moved : Bool) (m : Held B) (told : Tapped) (m' : Held B) (told' : Tapped)
-      → Turned step b moved m told m' told' → Onwards step m told m' told'
-  onwards_turned b moved m told m' told' h storages g caps s a =
-      let r = h storages g caps s a in
-      (turn (net_of storages g) (rooms_of caps) s b, (b ∷ [], refl), r.1, r.2)
-
-  pub onwards_moved : (b : ℕ) (m : Held B) (told : Tapped) (m' : Held B) (told' : Tapped)
-      → Moved step b m told m' told' → Onwards step m told m' told'
-  onwards_moved b m told m' told' h = onwards_turned b true m told m' told' (turned_moved step b m told m' told' h)
-
   -- a pass in which no block could move
   pub all_cannot : (m : Held B) (n : ℕ) → length m.routes.order ≤ n
       → ((k : ℕ) → k < n → Wherever step m (λ net rooms s. can net rooms s (get_or m.routes.order k 0) ≡ false)) → Wherever step m Stuck

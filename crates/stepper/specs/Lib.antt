@@ -8,3 +8,4 @@ pub mod Endings
 pub mod Laws
 pub mod Bursting
 pub mod AllMoves
+pub mod EndsView

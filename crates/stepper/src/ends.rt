@@ -5,6 +5,7 @@ ghost use Rattle.std.proofs.Common.{◌∙◌};
 ghost use Rattle.stream_tokens.specs.declared.Token.{Token as Tok};
 ghost use Rattle.block_core.specs.Move.{Taking, Putting};
 ghost use Rattle.plays.specs.Rest.{first_at, MayRelayOne, waits_at, FedAt, SameEnds, MadeAt, BurstAt, MayBurst};
+ghost use Rattle.stepper.specs.EndsView.{seen};
 ghost use Rattle.plays.proofs.Rests.{same_none, same_then, made_none, made_then, fed_made, comes};
 
 use crate::at::{pop_at, push_at, unpush_at};
@@ -41,14 +42,14 @@ impl<'a, T: Tap> Ends<'a, T> {
     /// Takes the token that waits first at an input, and puts another on an output, where there is room.
     #[inline]
     fn relay_one(&mut self, from: u32, to: u32, t: Token) -> Result<bool, AllocError>
-        requires may { MayRelayOne (record { queues = self.old.queues.now.items; told = T.told self.old.tap.now; moves = self.old.moves; block = self.old.block; ins = self.old.ins.now; outs = self.old.outs.now }) from to t }
+        requires may { MayRelayOne (seen T.Tap self.old) from to t }
         ensures same_queues { self.new.queues.ghost_name ≡ self.old.queues.ghost_name }
         ensures same_tap { self.new.tap.ghost_name ≡ self.old.tap.ghost_name }
-        ensures same_ends { SameEnds (record { queues = self.old.queues.now.items; told = T.told self.old.tap.now; moves = self.old.moves; block = self.old.block; ins = self.old.ins.now; outs = self.old.outs.now }) (record { queues = self.new.queues.now.items; told = T.told self.new.tap.now; moves = self.new.moves; block = self.new.block; ins = self.new.ins.now; outs = self.new.outs.now }) }
-        ensures relayed { result ≡ Ok true → (u : Tok) → first_at (record { queues = self.old.queues.now.items; told = T.told self.old.tap.now; moves = self.old.moves; block = self.old.block; ins = self.old.ins.now; outs = self.old.outs.now }) from ≡ Some u → MadeAt (record { queues = self.old.queues.now.items; told = T.told self.old.tap.now; moves = self.old.moves; block = self.old.block; ins = self.old.ins.now; outs = self.old.outs.now }) (Taking from u ∷ Putting to t ∷ []) (record { queues = self.new.queues.now.items; told = T.told self.new.tap.now; moves = self.new.moves; block = self.new.block; ins = self.new.ins.now; outs = self.new.outs.now }) }
-        ensures left { result ≡ Ok true → waits_at (record { queues = self.new.queues.now.items; told = T.told self.new.tap.now; moves = self.new.moves; block = self.new.block; ins = self.new.ins.now; outs = self.new.outs.now }) from ≡ drop 1 (waits_at (record { queues = self.old.queues.now.items; told = T.told self.old.tap.now; moves = self.old.moves; block = self.old.block; ins = self.old.ins.now; outs = self.old.outs.now }) from) }
-        ensures full { result ≡ Ok false → MadeAt (record { queues = self.old.queues.now.items; told = T.told self.old.tap.now; moves = self.old.moves; block = self.old.block; ins = self.old.ins.now; outs = self.old.outs.now }) [] (record { queues = self.new.queues.now.items; told = T.told self.new.tap.now; moves = self.new.moves; block = self.new.block; ins = self.new.ins.now; outs = self.new.outs.now }) }
-        ensures refused { IfErr result (λ _. MadeAt (record { queues = self.old.queues.now.items; told = T.told self.old.tap.now; moves = self.old.moves; block = self.old.block; ins = self.old.ins.now; outs = self.old.outs.now }) [] (record { queues = self.new.queues.now.items; told = T.told self.new.tap.now; moves = self.new.moves; block = self.new.block; ins = self.new.ins.now; outs = self.new.outs.now })) }
+        ensures same_ends { SameEnds (seen T.Tap self.old) (seen T.Tap self.new) }
+        ensures relayed { result ≡ Ok true → (u : Tok) → first_at (seen T.Tap self.old) from ≡ Some u → MadeAt (seen T.Tap self.old) (Taking from u ∷ Putting to t ∷ []) (seen T.Tap self.new) }
+        ensures left { result ≡ Ok true → waits_at (seen T.Tap self.new) from ≡ drop 1 (waits_at (seen T.Tap self.old) from) }
+        ensures full { result ≡ Ok false → MadeAt (seen T.Tap self.old) [] (seen T.Tap self.new) }
+        ensures refused { IfErr result (λ _. MadeAt (seen T.Tap self.old) [] (seen T.Tap self.new)) }
     {
         let ins = self.ins;
         let source = ins[from as usize] as usize;
@@ -70,13 +71,13 @@ impl<'a, T: Tap> Ends<'a, T> {
 }
 
 impl<'a, T: Tap> Ports for Ends<'a, T> {
-    ghost fed = { λ v. FedAt (record { queues = v.queues.now.items; told = T.told v.tap.now; moves = v.moves; block = v.block; ins = v.ins.now; outs = v.outs.now }) };
+    ghost fed = { λ v. FedAt (seen T.Tap v) };
 
-    ghost waits = { λ v. waits_at (record { queues = v.queues.now.items; told = T.told v.tap.now; moves = v.moves; block = v.block; ins = v.ins.now; outs = v.outs.now }) };
+    ghost waits = { λ v. waits_at (seen T.Tap v) };
 
-    ghost same = { λ v w. (w.queues.ghost_name ≡ v.queues.ghost_name) × (w.tap.ghost_name ≡ v.tap.ghost_name) × SameEnds (record { queues = v.queues.now.items; told = T.told v.tap.now; moves = v.moves; block = v.block; ins = v.ins.now; outs = v.outs.now }) (record { queues = w.queues.now.items; told = T.told w.tap.now; moves = w.moves; block = w.block; ins = w.ins.now; outs = w.outs.now }) };
+    ghost same = { λ v w. (w.queues.ghost_name ≡ v.queues.ghost_name) × (w.tap.ghost_name ≡ v.tap.ghost_name) × SameEnds (seen T.Tap v) (seen T.Tap w) };
 
-    ghost did = { λ v ms w. MadeAt (record { queues = v.queues.now.items; told = T.told v.tap.now; moves = v.moves; block = v.block; ins = v.ins.now; outs = v.outs.now }) ms (record { queues = w.queues.now.items; told = T.told w.tap.now; moves = w.moves; block = w.block; ins = w.ins.now; outs = w.outs.now }) };
+    ghost did = { λ v ms w. MadeAt (seen T.Tap v) ms (seen T.Tap w) };
 
     #[inline]
     fn front(&self, port: u32) -> Option<Token> {

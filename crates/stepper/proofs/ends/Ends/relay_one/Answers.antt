@@ -6,6 +6,7 @@ use Rattle.plays.proofs.Lists.{same_some, get_set_here}
 use Rattle.plays.proofs.Tellings.{neither, not_full, put_back}
 use Rattle.plays.proofs.Rests.{pushed, made_same, same_made}
 use Rattle.plays.proofs.Relays.{relay_in_port, relay_in_queue, relay_out_port, relay_out_queue, relay_lists, relay_apart, made_relay, relay_waits, relay_same, still_there}
+use Rattle.stepper.specs.EndsView.{seen}
 use Rattle.stepper.proofs.ends.Ends.relay_one.Goals as goal
 
 pub bounds-self-to : goal.bounds-self-to
@@ -66,9 +67,9 @@ returns-clause-relayed g c = λ z u first.
     let apart = relay_apart _ c.args.from c.args.to c.args.t c.requires.may in
     let q = slice_get_read c.args.self.now.queues.now.items _ (get_or c.args.self.now.outs.now c.args.to 0) c.index.result.now refl l c.index.ensures in
     let eq1 = c.in_ok-push_at.ensures.ok c.index.result.now q in
-    let still = still_there (record { queues = c.args.self.now.queues.now.items; told = g.T.Tap.told c.args.self.now.tap.now; moves = c.args.self.now.moves; block = c.args.self.now.block; ins = c.args.self.now.ins.now; outs = c.args.self.now.outs.now }) c.args.from c.args.to (pushed c.index.result.now c.args.t) c.push_at.new.queues.items apart lc eq1 in
+    let still = still_there (seen g.T.Tap c.args.self.now) c.args.from c.args.to (pushed c.index.result.now c.args.t) c.push_at.new.queues.items apart lc eq1 in
     let eq2 = c.pop_at.ensures.left _ still in
-    made_relay (record { queues = c.args.self.now.queues.now.items; told = g.T.Tap.told c.args.self.now.tap.now; moves = c.args.self.now.moves; block = c.args.self.now.block; ins = c.args.self.now.ins.now; outs = c.args.self.now.outs.now }) c.args.from c.args.to u c.args.t c.push_at.new.queues.items _ _ _ _ c.index.result.now first apart lc q (neither _ _ (sym c.is_held.ensures ∙ c.if-is_held.false)) eq1 eq2
+    made_relay (seen g.T.Tap c.args.self.now) c.args.from c.args.to u c.args.t c.push_at.new.queues.items _ _ _ _ c.index.result.now first apart lc q (neither _ _ (sym c.is_held.ensures ∙ c.if-is_held.false)) eq1 eq2
     c.in_default.ensures.ok c.one_more.ensures c.one_more-self.ensures
 
 pub returns-clause-left : goal.returns-clause-left
@@ -78,9 +79,9 @@ returns-clause-left g c = λ z.
     let apart = relay_apart _ c.args.from c.args.to c.args.t c.requires.may in
     let q = slice_get_read c.args.self.now.queues.now.items _ (get_or c.args.self.now.outs.now c.args.to 0) c.index.result.now refl l c.index.ensures in
     let eq1 = c.in_ok-push_at.ensures.ok c.index.result.now q in
-    let still = still_there (record { queues = c.args.self.now.queues.now.items; told = g.T.Tap.told c.args.self.now.tap.now; moves = c.args.self.now.moves; block = c.args.self.now.block; ins = c.args.self.now.ins.now; outs = c.args.self.now.outs.now }) c.args.from c.args.to (pushed c.index.result.now c.args.t) c.push_at.new.queues.items apart lc eq1 in
+    let still = still_there (seen g.T.Tap c.args.self.now) c.args.from c.args.to (pushed c.index.result.now c.args.t) c.push_at.new.queues.items apart lc eq1 in
     let eq2 = c.pop_at.ensures.left _ still in
-    relay_waits (record { queues = c.args.self.now.queues.now.items; told = g.T.Tap.told c.args.self.now.tap.now; moves = c.args.self.now.moves; block = c.args.self.now.block; ins = c.args.self.now.ins.now; outs = c.args.self.now.outs.now }) c.args.from c.push_at.new.queues.items c.pop_at.new.queues.items (omega (arith, lc, c.push_at.ensures.same_length)) eq2
+    relay_waits (seen g.T.Tap c.args.self.now) c.args.from c.push_at.new.queues.items c.pop_at.new.queues.items (omega (arith, lc, c.push_at.ensures.same_length)) eq2
 
 pub returns-clause-same_ends : goal.returns-clause-same_ends
 returns-clause-same_ends g c =
@@ -89,6 +90,6 @@ returns-clause-same_ends g c =
     let apart = relay_apart _ c.args.from c.args.to c.args.t c.requires.may in
     let q = slice_get_read c.args.self.now.queues.now.items _ (get_or c.args.self.now.outs.now c.args.to 0) c.index.result.now refl l c.index.ensures in
     let eq1 = c.in_ok-push_at.ensures.ok c.index.result.now q in
-    let still = still_there (record { queues = c.args.self.now.queues.now.items; told = g.T.Tap.told c.args.self.now.tap.now; moves = c.args.self.now.moves; block = c.args.self.now.block; ins = c.args.self.now.ins.now; outs = c.args.self.now.outs.now }) c.args.from c.args.to (pushed c.index.result.now c.args.t) c.push_at.new.queues.items apart lc eq1 in
+    let still = still_there (seen g.T.Tap c.args.self.now) c.args.from c.args.to (pushed c.index.result.now c.args.t) c.push_at.new.queues.items apart lc eq1 in
     let eq2 = c.pop_at.ensures.left _ still in
-    relay_same (record { queues = c.args.self.now.queues.now.items; told = g.T.Tap.told c.args.self.now.tap.now; moves = c.args.self.now.moves; block = c.args.self.now.block; ins = c.args.self.now.ins.now; outs = c.args.self.now.outs.now }) c.args.from c.args.to c.args.t c.push_at.new.queues.items _ _ _ _ _ eq1 eq2 c.in_default.ensures.ok
+    relay_same (seen g.T.Tap c.args.self.now) c.args.from c.args.to c.args.t c.push_at.new.queues.items _ _ _ _ _ eq1 eq2 c.in_default.ensures.ok

@@ -5,6 +5,7 @@ use Rattle.block_core.proofs.Pouring.{always-err}
 use Rattle.plays.specs.Rest.{MadeAt, waits_at}
 use Rattle.plays.proofs.Rests.{same_none, same_then, some_read}
 use Rattle.plays.proofs.Relays.{relayed_start, relay_may, relayed_next, relayed_still}
+use Rattle.stepper.specs.EndsView.{seen}
 use Rattle.stepper.proofs.ends.EndsPorts.relay.Goals as goal
 
 pub loop-i-init : goal.loop-i-init
@@ -13,7 +14,7 @@ loop-i-init g c = record { same_queues = refl; same_tap = refl; same_ends = same
 pub relay_one-requires : goal.relay_one-requires
 relay_one-requires g c =
     let at = some_read c.args.out.now c.loop-i.i (Item 0) c.loop-i-test.true in
-    record { may = relay_may (record { queues = c.args.self.now.queues.now.items; told = g.T.Tap.told c.args.self.now.tap.now; moves = c.args.self.now.moves; block = c.args.self.now.block; ins = c.args.self.now.ins.now; outs = c.args.self.now.outs.now }) c.args.from c.args.to c.args.out.now c.loop-i.i (record { queues = c.loop-i.self.queues.now.items; told = g.T.Tap.told c.loop-i.self.tap.now; moves = c.loop-i.self.moves; block = c.loop-i.self.block; ins = c.loop-i.self.ins.now; outs = c.loop-i.self.outs.now }) _ c.loop-i.invariant.relayed at c.requires.enough c.requires.may }
+    record { may = relay_may (seen g.T.Tap c.args.self.now) c.args.from c.args.to c.args.out.now c.loop-i.i (seen g.T.Tap c.loop-i.self) _ c.loop-i.invariant.relayed at c.requires.enough c.requires.may }
 
 pub loop-i-preserved : goal.loop-i-preserved
 loop-i-preserved g c =
@@ -23,8 +24,8 @@ loop-i-preserved g c =
     record {
       same_queues = c.relay_one.ensures.same_queues ∙ c.loop-i.invariant.same_queues;
       same_tap = c.relay_one.ensures.same_tap ∙ c.loop-i.invariant.same_tap;
-      same_ends = same_then (record { queues = c.args.self.now.queues.now.items; told = g.T.Tap.told c.args.self.now.tap.now; moves = c.args.self.now.moves; block = c.args.self.now.block; ins = c.args.self.now.ins.now; outs = c.args.self.now.outs.now }) (record { queues = c.loop-i.self.queues.now.items; told = g.T.Tap.told c.loop-i.self.tap.now; moves = c.loop-i.self.moves; block = c.loop-i.self.block; ins = c.loop-i.self.ins.now; outs = c.loop-i.self.outs.now }) (record { queues = c.relay_one.new.self.queues.now.items; told = g.T.Tap.told c.relay_one.new.self.tap.now; moves = c.relay_one.new.self.moves; block = c.relay_one.new.self.block; ins = c.relay_one.new.self.ins.now; outs = c.relay_one.new.self.outs.now }) c.loop-i.invariant.same_ends c.relay_one.ensures.same_ends;
-      relayed = relayed_next (record { queues = c.args.self.now.queues.now.items; told = g.T.Tap.told c.args.self.now.tap.now; moves = c.args.self.now.moves; block = c.args.self.now.block; ins = c.args.self.now.ins.now; outs = c.args.self.now.outs.now }) c.args.from c.args.to c.args.out.now c.loop-i.i (record { queues = c.loop-i.self.queues.now.items; told = g.T.Tap.told c.loop-i.self.tap.now; moves = c.loop-i.self.moves; block = c.loop-i.self.block; ins = c.loop-i.self.ins.now; outs = c.loop-i.self.outs.now }) _ (record { queues = c.relay_one.new.self.queues.now.items; told = g.T.Tap.told c.relay_one.new.self.tap.now; moves = c.relay_one.new.self.moves; block = c.relay_one.new.self.block; ins = c.relay_one.new.self.ins.now; outs = c.relay_one.new.self.outs.now }) c.loop-i.invariant.relayed at c.requires.enough
+      same_ends = same_then (seen g.T.Tap c.args.self.now) (seen g.T.Tap c.loop-i.self) (seen g.T.Tap c.relay_one.new.self) c.loop-i.invariant.same_ends c.relay_one.ensures.same_ends;
+      relayed = relayed_next (seen g.T.Tap c.args.self.now) c.args.from c.args.to c.args.out.now c.loop-i.i (seen g.T.Tap c.loop-i.self) _ (seen g.T.Tap c.relay_one.new.self) c.loop-i.invariant.relayed at c.requires.enough
           (c.in_ok-relay_one.ensures.relayed done) (c.in_ok-relay_one.ensures.left done);
     }
 
@@ -32,12 +33,12 @@ pub returns-then-not-branch-clause-relayed : goal.returns-then-not-branch-clause
 returns-then-not-branch-clause-relayed g c =
     let e : c.in_ok-relay_one.field-0 ≡ false = c.if-not-branch.true in
     let l : c.loop-i.i ≤ length c.args.out.now = omega (arith, c.loop-i-test.true) in
-    (l, relayed_still (record { queues = c.args.self.now.queues.now.items; told = g.T.Tap.told c.args.self.now.tap.now; moves = c.args.self.now.moves; block = c.args.self.now.block; ins = c.args.self.now.ins.now; outs = c.args.self.now.outs.now }) c.args.from c.args.to c.args.out.now c.loop-i.i (record { queues = c.loop-i.self.queues.now.items; told = g.T.Tap.told c.loop-i.self.tap.now; moves = c.loop-i.self.moves; block = c.loop-i.self.block; ins = c.loop-i.self.ins.now; outs = c.loop-i.self.outs.now }) (record { queues = c.relay_one.new.self.queues.now.items; told = g.T.Tap.told c.relay_one.new.self.tap.now; moves = c.relay_one.new.self.moves; block = c.relay_one.new.self.block; ins = c.relay_one.new.self.ins.now; outs = c.relay_one.new.self.outs.now }) c.loop-i.invariant.relayed (c.in_ok-relay_one.ensures.full (ap (λ z. Ok z) e)))
+    (l, relayed_still (seen g.T.Tap c.args.self.now) c.args.from c.args.to c.args.out.now c.loop-i.i (seen g.T.Tap c.loop-i.self) (seen g.T.Tap c.relay_one.new.self) c.loop-i.invariant.relayed (c.in_ok-relay_one.ensures.full (ap (λ z. Ok z) e)))
 
 pub returns-in_err-relay_one-clause-refused : goal.returns-in_err-relay_one-clause-refused
 returns-in_err-relay_one-clause-refused g c =
     let l : c.loop-i.i ≤ length c.args.out.now = omega (arith, c.loop-i-test.true) in
-    let made : MadeAt (record { queues = c.args.self.now.queues.now.items; told = g.T.Tap.told c.args.self.now.tap.now; moves = c.args.self.now.moves; block = c.args.self.now.block; ins = c.args.self.now.ins.now; outs = c.args.self.now.outs.now }) (relayed c.args.from c.args.to (take c.loop-i.i (waits_at (record { queues = c.args.self.now.queues.now.items; told = g.T.Tap.told c.args.self.now.tap.now; moves = c.args.self.now.moves; block = c.args.self.now.block; ins = c.args.self.now.ins.now; outs = c.args.self.now.outs.now }) c.args.from)) (take c.loop-i.i c.args.out.now)) (record { queues = c.relay_one.new.self.queues.now.items; told = g.T.Tap.told c.relay_one.new.self.tap.now; moves = c.relay_one.new.self.moves; block = c.relay_one.new.self.block; ins = c.relay_one.new.self.ins.now; outs = c.relay_one.new.self.outs.now }) =
-    relayed_still (record { queues = c.args.self.now.queues.now.items; told = g.T.Tap.told c.args.self.now.tap.now; moves = c.args.self.now.moves; block = c.args.self.now.block; ins = c.args.self.now.ins.now; outs = c.args.self.now.outs.now }) c.args.from c.args.to c.args.out.now c.loop-i.i (record { queues = c.loop-i.self.queues.now.items; told = g.T.Tap.told c.loop-i.self.tap.now; moves = c.loop-i.self.moves; block = c.loop-i.self.block; ins = c.loop-i.self.ins.now; outs = c.loop-i.self.outs.now }) (record { queues = c.relay_one.new.self.queues.now.items; told = g.T.Tap.told c.relay_one.new.self.tap.now; moves = c.relay_one.new.self.moves; block = c.relay_one.new.self.block; ins = c.relay_one.new.self.ins.now; outs = c.relay_one.new.self.outs.now }) c.loop-i.invariant.relayed c.in_err-relay_one.ensures.refused in
-    let part : (k : ℕ) × (k ≤ length c.args.out.now) × MadeAt (record { queues = c.args.self.now.queues.now.items; told = g.T.Tap.told c.args.self.now.tap.now; moves = c.args.self.now.moves; block = c.args.self.now.block; ins = c.args.self.now.ins.now; outs = c.args.self.now.outs.now }) (relayed c.args.from c.args.to (take k (waits_at (record { queues = c.args.self.now.queues.now.items; told = g.T.Tap.told c.args.self.now.tap.now; moves = c.args.self.now.moves; block = c.args.self.now.block; ins = c.args.self.now.ins.now; outs = c.args.self.now.outs.now }) c.args.from)) (take k c.args.out.now)) (record { queues = c.relay_one.new.self.queues.now.items; told = g.T.Tap.told c.relay_one.new.self.tap.now; moves = c.relay_one.new.self.moves; block = c.relay_one.new.self.block; ins = c.relay_one.new.self.ins.now; outs = c.relay_one.new.self.outs.now }) = (c.loop-i.i, l, made) in
+    let made : MadeAt (seen g.T.Tap c.args.self.now) (relayed c.args.from c.args.to (take c.loop-i.i (waits_at (seen g.T.Tap c.args.self.now) c.args.from)) (take c.loop-i.i c.args.out.now)) (seen g.T.Tap c.relay_one.new.self) =
+    relayed_still (seen g.T.Tap c.args.self.now) c.args.from c.args.to c.args.out.now c.loop-i.i (seen g.T.Tap c.loop-i.self) (seen g.T.Tap c.relay_one.new.self) c.loop-i.invariant.relayed c.in_err-relay_one.ensures.refused in
+    let part : (k : ℕ) × (k ≤ length c.args.out.now) × MadeAt (seen g.T.Tap c.args.self.now) (relayed c.args.from c.args.to (take k (waits_at (seen g.T.Tap c.args.self.now) c.args.from)) (take k c.args.out.now)) (seen g.T.Tap c.relay_one.new.self) = (c.loop-i.i, l, made) in
     always-err _ part
