@@ -55,7 +55,7 @@ lists_more t u n row cs h e first channels =
       ];
     }
 
--- a machine whose queues are empty step.stands at the start
+-- a machine whose queues are empty stands at the start
 pub starts_at : {B : Type 0} (step : Ghosts B) (storages : List Ranked) (g : Graph) (caps : List (Option ℕ)) (m : Held B)
     → WellFormed g → Consistent storages g → StandAt step.kind step.stands storages g start_position m.blocks
     → length caps ≡ length g.channels → length m.queues ≡ length caps

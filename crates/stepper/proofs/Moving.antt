@@ -1,4 +1,4 @@
--- An event of the machine: it step.stands where the event leads.
+-- An event of the machine: it stands where the event leads.
 use Rattle.std.specs.Prelude.{◌≡◌, ◌<◌, ℕ, ◌+◌, ◌-◌, ◌^◌, min, true, List, length, set, slice_get, get_or, Option, Some}
 use Rattle.std.proofs.Common.{arith, sym, ◌∙◌, ap, subst, inl, inr}
 use Rattle.std.proofs.lemmas.Bool.{cases_eq}

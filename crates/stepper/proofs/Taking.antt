@@ -108,7 +108,7 @@ module _ {B : Type 0} (step : Ghosts B) (m : Held B) (b p : ℕ) where
       ∙ ap (λ z. record { blocks = bs; queues = qs; moves = z; routes = m.routes }) (sym counted) in
       (possible, subst (AtState step storages g caps (raise b s)) same at', told_take net s b p t told move)
 
--- a machine that moved step.stands somewhere
+-- a machine that moved stands somewhere
 pub somewhere_after : {B : Type 0} (step : Ghosts B) (m m' : Held B) (b : ℕ) (told told' : Tapped)
     → Moved step b m told m' told' → ∥ (Somewhere step m) ∥₁ → ∥ (Somewhere step m') ∥₁
 somewhere_after step m m' b told told' moves sits =

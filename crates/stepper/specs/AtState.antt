@@ -28,7 +28,7 @@ pub record Routed (g : Graph) (r : Routes) : Type 0 where
 abbrev pub QueueOf : Net → (ℕ → Option ℕ) → State → ℕ → Queued → Type 0
 QueueOf net rooms s c q = (q.room ≡ rooms c) × Waits net s c q.tokens
 
--- The machine step.stands at a state of a graph over stored tensors, under these capacities: each block has made as many moves
+-- The machine stands at a state of a graph over stored tensors, under these capacities: each block has made as many moves
 -- as the state says, what waits on a channel is what was put there and not taken, no queue is longer than its channel's
 -- capacity, and the events are counted up to 2^64-1.
 pub record AtState {B : Type 0} (step : Ghosts B)

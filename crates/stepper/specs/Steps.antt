@@ -36,7 +36,7 @@ WaitsOn step b c full m = Wherever step m (λ net rooms s. hindrance net rooms s
 abbrev pub HasEnded : {B : Type 0} → Ghosts B → ℕ → Held B → Type 0
 HasEnded step b m = Wherever step m (λ net rooms s. s b ≡ length (net.moves b))
 
--- Wherever the machine stood, the event of this block was possible there, and the machine step.stands where it leads; a tap
+-- Wherever the machine stood, the event of this block was possible there, and the machine stands where it leads; a tap
 -- was given what it put.
 abbrev pub Moved : {B : Type 0} → Ghosts B → ℕ
     → Held B → Tapped → Held B → Tapped → Type 0
