@@ -101,9 +101,9 @@ cut text from to n h = take-take n (to - from) (drop from text) h ∙ ap (λ k. 
 length-part : (text : List ℕ) (from to : ℕ) → from ≤ to → to ≤ length text → length (slice_range text from to) ≡ to - from
 length-part text from to h k = simp (length-take, length-drop) (omega arith)
 
-pub first_word : (text : List ℕ) (from to gaps count : ℕ) → from ≤ to → to ≤ length text → gaps ≡ prefix_len is_gap (slice_range text from to) → gaps < to - from → count ≡ position_or_len is_gap (slice_range text (from + gaps) to)
+pub word_there : (text : List ℕ) (from to gaps count : ℕ) → from ≤ to → to ≤ length text → gaps ≡ prefix_len is_gap (slice_range text from to) → gaps < to - from → count ≡ position_or_len is_gap (slice_range text (from + gaps) to)
     → FirstWord text from to (from + gaps) (from + gaps + count)
-first_word text from to gaps count h k g less n =
+word_there text from to gaps count h k g less n =
     let whole = slice_range text from to in
     let rest = slice_range text (from + gaps) to in
     let is : rest ≡ drop gaps whole = part text from to gaps in

@@ -2,11 +2,13 @@
 #![tactic(auto)]
 
 mod bytes;
+mod lines;
 mod numbers;
 mod places;
-#[cfg(test)]
-mod tests;
+mod words;
 
 pub use bytes::{is_blank, is_digit, is_letter, is_name, is_name_byte};
+pub use lines::{Line, Lines};
 pub use numbers::{NumFault, read_u64};
 pub use places::{line_at, word_at};
+pub use words::{first_word, is_skipped};
