@@ -13,9 +13,8 @@ use Rattle.notation.specs.declared.statement.Statement.{Statement}
 use Rattle.notation.specs.declared.state.Part.{Part}
 use Rattle.notation.specs.declared.state.State.{State}
 use Rattle.notation.specs.declared.state.State.TheVariants as s
-use Rattle.notation.specs.Positions as g
-use Rattle.notation.specs.Positions.{with_factor, with_var, term_of, whole, at_factor, at_operator, step_of, end_of, run, go}
-use Rattle.notation.specs.Spelling.{Mark, mark, joined, var, access, factor, factors, sign, terms, FitTerm, Fit, Marked, Spells}
+use Rattle.notation.specs.Positions.{with_factor, with_var, part_term, whole_statement, at_factor, at_operator, step_of, end_of, run, go, named_access, next_term}
+use Rattle.notation.specs.Spelling.{Mark, bare_mark, separated, var, access_marks, factor, factors, sign, terms, FitTerm, Fit, Marked, Spells}
 
 one : (end : ℕ) (here there : State) (x : Placed) (xs : List Placed) (token : Token) → x.token ≡ token → step_of here token x.place ≡ Ok there → run end here (x ∷ xs) ≡ run end there xs
 unfolding run go
@@ -30,7 +29,7 @@ record Goes (end : ℕ) (here : State) (xs : List Placed) (there : State) (more 
   same : run end here xs ≡ run end there rest
 
 vars-again : (V N D : AccessText → State) → ((a : AccessText) (n : List ℕ) (p : ℕ) → step_of (V a) (t.Name n) p ≡ Ok (N (with_var a n))) → ((a : AccessText) (p : ℕ) → step_of (N a) t.Comma p ≡ Ok (V a)) → ((a : AccessText) (p : ℕ) → step_of (N a) t.Close p ≡ Ok (D a))
-    → (end : ℕ) (a : AccessText) (v : List ℕ) (vs : List (List ℕ)) (xs : List Placed) (more : List Mark) → Marked xs (joined (mark t.Comma) var (v ∷ vs) ++ mark t.Close ∷ more) → Goes end (V a) xs (D (with_vars a (v ∷ vs))) more
+    → (end : ℕ) (a : AccessText) (v : List ℕ) (vs : List (List ℕ)) (xs : List Placed) (more : List Mark) → Marked xs (separated (bare_mark t.Comma) var (v ∷ vs) ++ bare_mark t.Close ∷ more) → Goes end (V a) xs (D (with_vars a (v ∷ vs))) more
 vars-again V N D hv hc hd end a v [] [] more h = absurd h
 vars-again V N D hv hc hd end a v [] (x ∷ []) more h = absurd h.1
 vars-again V N D hv hc hd end a v [] (x ∷ y ∷ xs) more h = record {
@@ -74,7 +73,7 @@ step-close : (p : Part) (a : AccessText) (place : ℕ) → step_of (s.Next p a) 
 unfolding step_of
 step-close p a place = refl
 
-step-name : (p : Part) (n : List ℕ) (place : ℕ) → step_of (s.Factor p) (t.Name n) place ≡ Ok (s.Named p (g.access n place))
+step-name : (p : Part) (n : List ℕ) (place : ℕ) → step_of (s.Factor p) (t.Name n) place ≡ Ok (s.Named p (named_access n place))
 unfolding step_of at_factor
 step-name p n place = refl
 
@@ -86,17 +85,17 @@ step-open : (p : Part) (a : AccessText) (place : ℕ) → step_of (s.Named p a) 
 unfolding step_of
 step-open p a place = refl
 
-named : (end : ℕ) (p : Part) (n : List ℕ) (place : ℕ) (x : Placed) (xs : List Placed) → x.token ≡ t.Name n → x.place ≡ place → run end (s.Factor p) (x ∷ xs) ≡ run end (s.Named p (g.access n place)) xs
-named end p n place x xs e h = one end (s.Factor p) (s.Named p (g.access n x.place)) x xs (t.Name n) e (step-name p n x.place) ∙ ap (λ k. run end (s.Named p (g.access n k)) xs) h
+named : (end : ℕ) (p : Part) (n : List ℕ) (place : ℕ) (x : Placed) (xs : List Placed) → x.token ≡ t.Name n → x.place ≡ place → run end (s.Factor p) (x ∷ xs) ≡ run end (s.Named p (named_access n place)) xs
+named end p n place x xs e h = one end (s.Factor p) (s.Named p (named_access n x.place)) x xs (t.Name n) e (step-name p n x.place) ∙ ap (λ k. run end (s.Named p (named_access n k)) xs) h
 
-access-again : (end : ℕ) (p : Part) (n : List ℕ) (vs : List (List ℕ)) (place : ℕ) (xs : List Placed) (more : List Mark) → let a : AccessText = record { name = n; vars = vs; place = place } in Marked xs (access a ++ more) → Ends more → Goes end (s.Factor p) xs (s.Operator (with_factor p (f.Access a))) more
+access-again : (end : ℕ) (p : Part) (n : List ℕ) (vs : List (List ℕ)) (place : ℕ) (xs : List Placed) (more : List Mark) → let a : AccessText = record { name = n; vars = vs; place = place } in Marked xs (access_marks a ++ more) → Ends more → Goes end (s.Factor p) xs (s.Operator (with_factor p (f.Access a))) more
 access-again end p n vs place [] more h e = absurd h
-access-again end p n [] place (x ∷ xs) more h e = record { rest = xs; marked = h.1; same = named end p n place x xs h.0.0 h.0.1 ∙ settles end p (g.access n place) xs more h.1 e }
+access-again end p n [] place (x ∷ xs) more h e = record { rest = xs; marked = h.1; same = named end p n place x xs h.0.0 h.0.1 ∙ settles end p (named_access n place) xs more h.1 e }
 access-again end p n (v ∷ vs) place (x ∷ []) more h e = absurd h.1
 access-again end p n (v ∷ vs) place (x ∷ y ∷ xs) more h e =
-    let m : Marked xs (joined (mark t.Comma) var (v ∷ vs) ++ mark t.Close ∷ more) = subst (λ ms. Marked xs ms) (append_assoc (joined (mark t.Comma) var (v ∷ vs)) (mark t.Close ∷ []) more) h.1.1 in
-    let r = vars-again (s.Var p) (s.Next p) (λ a. s.Operator (with_factor p (f.Access a))) (step-var p) (step-comma p) (step-close p) end (g.access n place) v vs xs more m in
-    record { rest = r.rest; marked = r.marked; same = named end p n place x (y ∷ xs) h.0.0 h.0.1 ∙ one end (s.Named p (g.access n place)) (s.Var p (g.access n place)) y xs t.Open h.1.0.0 (step-open p (g.access n place) y.place) ∙ r.same }
+    let m : Marked xs (separated (bare_mark t.Comma) var (v ∷ vs) ++ bare_mark t.Close ∷ more) = subst (λ ms. Marked xs ms) (append_assoc (separated (bare_mark t.Comma) var (v ∷ vs)) (bare_mark t.Close ∷ []) more) h.1.1 in
+    let r = vars-again (s.Var p) (s.Next p) (λ a. s.Operator (with_factor p (f.Access a))) (step-var p) (step-comma p) (step-close p) end (named_access n place) v vs xs more m in
+    record { rest = r.rest; marked = r.marked; same = named end p n place x (y ∷ xs) h.0.0 h.0.1 ∙ one end (s.Named p (named_access n place)) (s.Var p (named_access n place)) y xs t.Open h.1.0.0 (step-open p (named_access n place) y.place) ∙ r.same }
 
 factor-again : (end : ℕ) (p : Part) (x : FactorText) (xs : List Placed) (more : List Mark) → Marked xs (factor x ++ more) → Ends more → Goes end (s.Factor p) xs (s.Operator (with_factor p x)) more
 factor-again end p (f.Access a) xs more h e = access-again end p a.name a.vars a.place xs more h e
@@ -110,25 +109,25 @@ step-star p place lt = rw (lt-ltb _ _ lt) refl
 abbrev with_all : Part → List FactorText → Part
 with_all p xs = record { left = p.left; terms = p.terms; minus = p.minus; factors = p.factors ++ xs }
 
-star : (end : ℕ) (p : Part) (xs : List Placed) (more : List Mark) → length p.factors < 8 → Marked xs (mark t.Star ∷ more) → Goes end (s.Operator p) xs (s.Factor p) more
+star : (end : ℕ) (p : Part) (xs : List Placed) (more : List Mark) → length p.factors < 8 → Marked xs (bare_mark t.Star ∷ more) → Goes end (s.Operator p) xs (s.Factor p) more
 star end p [] more lt h = absurd h
 star end p (x ∷ xs) more lt h = record { rest = xs; marked = h.1; same = one end (s.Operator p) (s.Factor p) x xs t.Star h.0.0 (step-star p x.place lt) }
 
 factors-again : (end : ℕ) (p : Part) (y : FactorText) (ys : List FactorText) (xs : List Placed) (more : List Mark) → length p.factors + (length ys + 1) ≤ 8 → Marked xs (factors (y ∷ ys) ++ more) → Ends more → Goes end (s.Factor p) xs (s.Operator (with_all p (y ∷ ys))) more
 factors-again end p y [] xs more fits h e = factor-again end p y xs more h e
 factors-again end p y (z ∷ zs) xs more fits h e =
-    let m : Marked xs (factor y ++ (mark t.Star ∷ (factors (z ∷ zs) ++ more))) = subst (λ ms. Marked xs ms) (append_assoc (factor y) (mark t.Star ∷ factors (z ∷ zs)) more) h in
-    let a = factor-again end p y xs (mark t.Star ∷ (factors (z ∷ zs) ++ more)) m (inl refl) in
+    let m : Marked xs (factor y ++ (bare_mark t.Star ∷ (factors (z ∷ zs) ++ more))) = subst (λ ms. Marked xs ms) (append_assoc (factor y) (bare_mark t.Star ∷ factors (z ∷ zs)) more) h in
+    let a = factor-again end p y xs (bare_mark t.Star ∷ (factors (z ∷ zs) ++ more)) m (inl refl) in
     let b = star end (with_factor p y) a.rest (factors (z ∷ zs) ++ more) (omega (arith, fits, length-append p.factors (y ∷ []))) a.marked in
     let c = factors-again end (with_factor p y) z zs b.rest more (omega (arith, fits, length-append p.factors (y ∷ []))) b.marked e in
     record { rest = c.rest; marked = c.marked; same = a.same ∙ b.same ∙ c.same ∙ ap (λ (fs : List FactorText). run end (s.Operator (record { left = p.left; terms = p.terms; minus = p.minus; factors = fs })) c.rest) (append_assoc p.factors (y ∷ []) (z ∷ zs)) }
 
-next_sign : (end : ℕ) (p : Part) (minus : Bool) (xs : List Placed) (more : List Mark) → length p.terms < 15 → Marked xs (sign false minus ++ more) → Goes end (s.Operator p) xs (s.Factor (g.next_term p minus)) more
+next_sign : (end : ℕ) (p : Part) (minus : Bool) (xs : List Placed) (more : List Mark) → length p.terms < 15 → Marked xs (sign false minus ++ more) → Goes end (s.Operator p) xs (s.Factor (next_term p minus)) more
 unfolding step_of at_operator
 next_sign end p true [] more lt h = absurd h
 next_sign end p false [] more lt h = absurd h
-next_sign end p true (x ∷ xs) more lt h = record { rest = xs; marked = h.1; same = one end (s.Operator p) (s.Factor (g.next_term p true)) x xs t.Minus h.0.0 (rw (lt-ltb _ _ lt) refl) }
-next_sign end p false (x ∷ xs) more lt h = record { rest = xs; marked = h.1; same = one end (s.Operator p) (s.Factor (g.next_term p false)) x xs t.Plus h.0.0 (rw (lt-ltb _ _ lt) refl) }
+next_sign end p true (x ∷ xs) more lt h = record { rest = xs; marked = h.1; same = one end (s.Operator p) (s.Factor (next_term p true)) x xs t.Minus h.0.0 (rw (lt-ltb _ _ lt) refl) }
+next_sign end p false (x ∷ xs) more lt h = record { rest = xs; marked = h.1; same = one end (s.Operator p) (s.Factor (next_term p false)) x xs t.Plus h.0.0 (rw (lt-ltb _ _ lt) refl) }
 
 sign_ends : (minus : Bool) (more : List Mark) → Ends (sign false minus ++ more)
 sign_ends true more = inr (inr refl)
@@ -142,7 +141,7 @@ term-again : (end : ℕ) (p : Part) (fs : List FactorText) (xs : List Placed) (m
 term-again end p [] xs more some fits h e = absurd (omega (arith, some))
 term-again end p (y ∷ ys) xs more some fits h e = factors-again end p y ys xs more (omega (arith, fits)) h e
 
-ended : (end : ℕ) (p : Part) (xs : List Placed) → Marked xs [] → run end (s.Operator p) xs ≡ Ok (whole p)
+ended : (end : ℕ) (p : Part) (xs : List Placed) → Marked xs [] → run end (s.Operator p) xs ≡ Ok (whole_statement p)
 unfolding run end_of
 ended end p [] h = refl
 ended end p (x ∷ xs) h = absurd h
@@ -184,28 +183,28 @@ left-done : (a : AccessText) (place : ℕ) → step_of (s.LeftDone a) t.Equals p
 unfolding step_of
 left-done a place = refl
 
-starts : (n : List ℕ) (place : ℕ) → step_of s.Start (t.Name n) place ≡ Ok (s.LeftName (g.access n place))
+starts : (n : List ℕ) (place : ℕ) → step_of s.Start (t.Name n) place ≡ Ok (s.LeftName (named_access n place))
 unfolding step_of
 starts n place = refl
 
-left-name : (end : ℕ) (n : List ℕ) (place : ℕ) (x : Placed) (xs : List Placed) → x.token ≡ t.Name n → x.place ≡ place → run end s.Start (x ∷ xs) ≡ run end (s.LeftName (g.access n place)) xs
-left-name end n place x xs e h = one end s.Start (s.LeftName (g.access n x.place)) x xs (t.Name n) e (starts n x.place) ∙ ap (λ k. run end (s.LeftName (g.access n k)) xs) h
+left-name : (end : ℕ) (n : List ℕ) (place : ℕ) (x : Placed) (xs : List Placed) → x.token ≡ t.Name n → x.place ≡ place → run end s.Start (x ∷ xs) ≡ run end (s.LeftName (named_access n place)) xs
+left-name end n place x xs e h = one end s.Start (s.LeftName (named_access n x.place)) x xs (t.Name n) e (starts n x.place) ∙ ap (λ k. run end (s.LeftName (named_access n k)) xs) h
 
-equals : (end : ℕ) (here : State) (a : AccessText) (xs : List Placed) (more : List Mark) → ((place : ℕ) → step_of here t.Equals place ≡ Ok (s.First a)) → Marked xs (mark t.Equals ∷ more) → Goes end here xs (s.First a) more
+equals : (end : ℕ) (here : State) (a : AccessText) (xs : List Placed) (more : List Mark) → ((place : ℕ) → step_of here t.Equals place ≡ Ok (s.First a)) → Marked xs (bare_mark t.Equals ∷ more) → Goes end here xs (s.First a) more
 equals end here a [] more e h = absurd h
 equals end here a (x ∷ xs) more e h = record { rest = xs; marked = h.1; same = one end here (s.First a) x xs t.Equals h.0.0 (e x.place) }
 
-left-again : (end : ℕ) (n : List ℕ) (vs : List (List ℕ)) (place : ℕ) (xs : List Placed) (more : List Mark) → let a : AccessText = record { name = n; vars = vs; place = place } in Marked xs (access a ++ mark t.Equals ∷ more) → Goes end s.Start xs (s.First a) more
+left-again : (end : ℕ) (n : List ℕ) (vs : List (List ℕ)) (place : ℕ) (xs : List Placed) (more : List Mark) → let a : AccessText = record { name = n; vars = vs; place = place } in Marked xs (access_marks a ++ bare_mark t.Equals ∷ more) → Goes end s.Start xs (s.First a) more
 left-again end n vs place [] more h = absurd h
 left-again end n [] place (x ∷ xs) more h =
-    let r = equals end (s.LeftName (g.access n place)) (g.access n place) xs more (left-none (g.access n place)) h.1 in
+    let r = equals end (s.LeftName (named_access n place)) (named_access n place) xs more (left-none (named_access n place)) h.1 in
     record { rest = r.rest; marked = r.marked; same = left-name end n place x xs h.0.0 h.0.1 ∙ r.same }
 left-again end n (v ∷ vs) place (x ∷ []) more h = absurd h.1
 left-again end n (v ∷ vs) place (x ∷ y ∷ xs) more h =
-    let m : Marked xs (joined (mark t.Comma) var (v ∷ vs) ++ mark t.Close ∷ mark t.Equals ∷ more) = subst (λ ms. Marked xs ms) (append_assoc (joined (mark t.Comma) var (v ∷ vs)) (mark t.Close ∷ []) (mark t.Equals ∷ more)) h.1.1 in
-    let r = vars-again s.LeftVar s.LeftNext s.LeftDone left-var left-comma left-close end (g.access n place) v vs xs (mark t.Equals ∷ more) m in
-    let q = equals end (s.LeftDone (with_vars (g.access n place) (v ∷ vs))) (with_vars (g.access n place) (v ∷ vs)) r.rest more (left-done (with_vars (g.access n place) (v ∷ vs))) r.marked in
-    record { rest = q.rest; marked = q.marked; same = left-name end n place x (y ∷ xs) h.0.0 h.0.1 ∙ one end (s.LeftName (g.access n place)) (s.LeftVar (g.access n place)) y xs t.Open h.1.0.0 (left-open (g.access n place) y.place) ∙ r.same ∙ q.same }
+    let m : Marked xs (separated (bare_mark t.Comma) var (v ∷ vs) ++ bare_mark t.Close ∷ bare_mark t.Equals ∷ more) = subst (λ ms. Marked xs ms) (append_assoc (separated (bare_mark t.Comma) var (v ∷ vs)) (bare_mark t.Close ∷ []) (bare_mark t.Equals ∷ more)) h.1.1 in
+    let r = vars-again s.LeftVar s.LeftNext s.LeftDone left-var left-comma left-close end (named_access n place) v vs xs (bare_mark t.Equals ∷ more) m in
+    let q = equals end (s.LeftDone (with_vars (named_access n place) (v ∷ vs))) (with_vars (named_access n place) (v ∷ vs)) r.rest more (left-done (with_vars (named_access n place) (v ∷ vs))) r.marked in
+    record { rest = q.rest; marked = q.marked; same = left-name end n place x (y ∷ xs) h.0.0 h.0.1 ∙ one end (s.LeftName (named_access n place)) (s.LeftVar (named_access n place)) y xs t.Open h.1.0.0 (left-open (named_access n place) y.place) ∙ r.same ∙ q.same }
 
 -- a first term without a sign
 plain : (end : ℕ) (a : AccessText) (x : FactorText) (xs : List Placed) (more : List Mark) → Marked xs (factor x ++ more) → run end (s.First a) xs ≡ run end (s.Factor (begun a [] false)) xs
@@ -218,7 +217,7 @@ plain end a (f.Literal n) (x ∷ xs) more h = rw h.0.0 refl
 plain_term : (end : ℕ) (a : AccessText) (fs : List FactorText) (xs : List Placed) (more : List Mark) → 0 < length fs → Marked xs (factors fs ++ more) → run end (s.First a) xs ≡ run end (s.Factor (begun a [] false)) xs
 plain_term end a [] xs more some h = absurd (omega (arith, some))
 plain_term end a (y ∷ []) xs more some h = plain end a y xs more h
-plain_term end a (y ∷ z ∷ zs) xs more some h = plain end a y xs (mark t.Star ∷ factors (z ∷ zs) ++ more) (subst (λ ms. Marked xs ms) (append_assoc (factor y) (mark t.Star ∷ factors (z ∷ zs)) more) h)
+plain_term end a (y ∷ z ∷ zs) xs more some h = plain end a y xs (bare_mark t.Star ∷ factors (z ∷ zs) ++ more) (subst (λ ms. Marked xs ms) (append_assoc (factor y) (bare_mark t.Star ∷ factors (z ∷ zs)) more) h)
 
 step-minus : (a : AccessText) (place : ℕ) → step_of (s.First a) t.Minus place ≡ Ok (s.Factor (begun a [] true))
 unfolding step_of

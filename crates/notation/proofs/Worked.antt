@@ -6,9 +6,9 @@ use Rattle.notation.specs.declared.tokens.Placed.{Placed}
 use Rattle.notation.specs.declared.statement.FactorText.TheVariants as f
 use Rattle.notation.specs.declared.statement.Statement.{Statement}
 use Rattle.notation.specs.declared.statement.AccessText.{AccessText}
-use Rattle.notation.specs.Refusals.{Refusal}
+use Rattle.notation.specs.Refusals.{NoteRefusal}
 use Rattle.notation.specs.Tokens.{tokens_of}
-use Rattle.notation.specs.Positions.{reading, run, go, step_of, at_factor, at_operator, end_of}
+use Rattle.notation.specs.Positions.{statement_reading, run, go, step_of, at_factor, at_operator, end_of}
 
 abbrev at : t.the_data → ℕ → Placed
 at token place = record { token = token; place = place }
@@ -20,7 +20,7 @@ longest_tokens = refl
 newline : tokens_of (codes "a" ++ 9 ∷ 13 ∷ 10 ∷ []) ≡ at (t.Name (codes "a")) 0 ∷ at t.Bad 3 ∷ []
 newline = refl
 
-abbrev refused : k.the_data → ℕ → Result Statement Refusal
+abbrev refused : k.the_data → ℕ → Result Statement NoteRefusal
 refused kind place = Err (record { kind = kind; place = place })
 
 abbrev access_text : List ℕ → List (List ℕ) → ℕ → AccessText
@@ -32,50 +32,50 @@ product = record {
   terms = (record { minus = true; factors = f.Access (access_text (codes "b") (codes "i" ∷ []) 8) ∷ f.Literal 7 ∷ [] }) ∷ (record { minus = false; factors = f.Access (access_text (codes "c") [] 18) ∷ [] }) ∷ [];
 }
 
-product_read : reading (codes "x(i) = -b(i) *07 +c") ≡ Ok product
+product_read : statement_reading (codes "x(i) = -b(i) *07 +c") ≡ Ok product
 unfolding run go step_of at_factor at_operator end_of
 product_read = refl
 
-empty : reading [] ≡ refused k.ExpectedName 0
+empty : statement_reading [] ≡ refused k.ExpectedName 0
 unfolding run go step_of at_factor at_operator end_of
 empty = refl
 
-no_equals : reading (codes "x(i) b") ≡ refused k.ExpectedEquals 5
+no_equals : statement_reading (codes "x(i) b") ≡ refused k.ExpectedEquals 5
 unfolding run go step_of at_factor at_operator end_of
 no_equals = refl
 
-no_comma : reading (codes "x(i j)") ≡ refused k.ExpectedComma 4
+no_comma : statement_reading (codes "x(i j)") ≡ refused k.ExpectedComma 4
 unfolding run go step_of at_factor at_operator end_of
 no_comma = refl
 
-parenthesis : reading (codes "x=-(b)") ≡ refused k.Parenthesis 3
+parenthesis : statement_reading (codes "x=-(b)") ≡ refused k.Parenthesis 3
 unfolding run go step_of at_factor at_operator end_of
 parenthesis = refl
 
-sum_form : reading (codes "x=b*sum(i,c)") ≡ refused k.SumForm 4
+sum_form : statement_reading (codes "x=b*sum(i,c)") ≡ refused k.SumForm 4
 unfolding run go step_of at_factor at_operator end_of
 sum_form = refl
 
-number_too_large : reading (codes "x=18446744073709551616%") ≡ refused k.NumberTooLarge 2
+number_too_large : statement_reading (codes "x=18446744073709551616%") ≡ refused k.NumberTooLarge 2
 unfolding run go step_of at_factor at_operator end_of
 number_too_large = refl
 
-bad_char : reading (codes "x=b.") ≡ refused k.BadChar 3
+bad_char : statement_reading (codes "x=b.") ≡ refused k.BadChar 3
 unfolding run go step_of at_factor at_operator end_of
 bad_char = refl
 
-no_operator : reading (codes "x=2b(i)") ≡ refused k.ExpectedOperator 3
+no_operator : statement_reading (codes "x=2b(i)") ≡ refused k.ExpectedOperator 3
 unfolding run go step_of at_factor at_operator end_of
 no_operator = refl
 
-no_factor : reading (codes "x==%") ≡ refused k.ExpectedFactor 2
+no_factor : statement_reading (codes "x==%") ≡ refused k.ExpectedFactor 2
 unfolding run go step_of at_factor at_operator end_of
 no_factor = refl
 
-ninth_factor : reading (codes "x=1*1*1*1*1*1*1*1*1+") ≡ refused k.TooManyFactors 17
+ninth_factor : statement_reading (codes "x=1*1*1*1*1*1*1*1*1+") ≡ refused k.TooManyFactors 17
 unfolding run go step_of at_factor at_operator end_of
 ninth_factor = refl
 
-seventeenth_term : reading (codes "x=b+b+b+b+b+b+b+b+b+b+b+b+b+b+b+b+%") ≡ refused k.TooManyTerms 33
+seventeenth_term : statement_reading (codes "x=b+b+b+b+b+b+b+b+b+b+b+b+b+b+b+b+%") ≡ refused k.TooManyTerms 33
 unfolding run go step_of at_factor at_operator end_of
 seventeenth_term = refl

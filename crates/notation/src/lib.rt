@@ -5,8 +5,6 @@ mod reading;
 mod state;
 mod statement;
 mod step;
-#[cfg(test)]
-mod tests;
 mod tokens;
 
 pub use reading::read_statement;

@@ -2,8 +2,8 @@
 
 ghost use Rattle.std.specs.Prelude.{◌≡◌, ◌≤◌, length, IfOk, Ok};
 ghost use Rattle.notation.specs.declared.statement.Statement.{Statement as SpecStatement};
-ghost use Rattle.notation.specs.Refusals.{Gives, IfRefused};
-ghost use Rattle.notation.specs.Positions.{reading};
+ghost use Rattle.notation.specs.Refusals.{GivesNote, IfNoteRefused};
+ghost use Rattle.notation.specs.Positions.{statement_reading};
 ghost use Rattle.notation.specs.Spelling.{Spells, FirstFault};
 ghost use Rattle.notation.specs.Tokens.{tokens_of};
 
@@ -16,7 +16,7 @@ use std::alloc::Global;
 
 fn read(alloc: Global, text: &[u8]) -> Result<Statement, NoteFault>
     requires { length text.now ≤ FILE_MOST }
-    ensures { Gives result (reading text.now) }
+    ensures { GivesNote result (statement_reading text.now) }
 {
     let mut state = State::Start;
     let mut at = 0;
@@ -35,11 +35,11 @@ pub fn read_statement(alloc: Global, text: &[u8]) -> Result<Statement, NoteFault
     // What is read is spelled so.
     ensures found { IfOk result (λ x. Spells (tokens_of text.now) x) }
     // What is spelled so is read, unless memory runs out.
-    ensures only { (x : SpecStatement) → Spells (tokens_of text.now) x → Gives result (Ok x) }
+    ensures only { (x : SpecStatement) → Spells (tokens_of text.now) x → GivesNote result (Ok x) }
     // A refusal stands at the first fault.
-    ensures first { IfRefused result (FirstFault (length text.now) (tokens_of text.now)) }
+    ensures first { IfNoteRefused result (FirstFault (length text.now) (tokens_of text.now)) }
     // Its kind is that of the position where the first fault stands.
-    ensures exact { Gives result (reading text.now) }
+    ensures exact { GivesNote result (statement_reading text.now) }
 {
     read(alloc, text)
 }

@@ -1,7 +1,7 @@
 //! Where the reading of a statement stands, and what was read.
 
 ghost use Rattle.std.specs.Prelude.{◌≡◌, IfOk};
-ghost use Rattle.notation.specs.Positions.{access, with_var, with_factor, next_term, first_term, whole};
+ghost use Rattle.notation.specs.Positions.{named_access, with_var, with_factor, next_term, first_term, whole_statement};
 
 use crate::statement::{AccessText, FactorText, Statement, TermText};
 use sam_base::{Items, Name};
@@ -46,7 +46,7 @@ pub(crate) enum State {
 impl AccessText {
     /// A name with no variable yet.
     pub(crate) fn named(alloc: Global, name: Name, place: u32) -> AccessText
-        ensures { result ≡ access name place }
+        ensures { result ≡ named_access name place }
     {
         AccessText {
             name,
@@ -97,7 +97,7 @@ impl Part {
     }
 
     pub(crate) fn finish(self) -> Result<Statement, AllocError>
-        ensures { IfOk result (λ x. x ≡ whole self) }
+        ensures { IfOk result (λ x. x ≡ whole_statement self) }
     {
         let mut terms = self.terms;
         terms.push(TermText {

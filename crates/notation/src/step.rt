@@ -1,8 +1,8 @@
 //! What each token does where the reading stands.
 
 ghost use Rattle.std.specs.Prelude.{◌≡◌};
-ghost use Rattle.notation.specs.Refusals.{Gives};
-ghost use Rattle.notation.specs.Positions.{kind_of, at_factor, at_operator, step_of, end_of, more_terms};
+ghost use Rattle.notation.specs.Refusals.{GivesNote};
+ghost use Rattle.notation.specs.Positions.{token_kind, at_factor, at_operator, step_of, end_of, more_terms};
 
 use crate::state::{Part, State};
 use crate::statement::{AccessText, FactorText, NoteFault, Statement};
@@ -12,7 +12,7 @@ use std::alloc::Global;
 
 /// The refusal of a token that may not stand where it stands.
 fn refuse_token(token: &Token, kind: NoteKind, place: u32) -> NoteFault
-    ensures { result ≡ NoteFault.Refused (kind_of token.now kind) place }
+    ensures { result ≡ NoteFault.Refused (token_kind token.now kind) place }
 {
     let kind = match token {
         Token::Bad => NoteKind::BadChar,
@@ -23,7 +23,7 @@ fn refuse_token(token: &Token, kind: NoteKind, place: u32) -> NoteFault
 
 #[tactic(auto, unfolding(crate::specs::Positions::at_factor))]
 fn factor(alloc: Global, part: Part, token: Token, place: u32) -> Result<State, NoteFault>
-    ensures { Gives result (at_factor part token place) }
+    ensures { GivesNote result (at_factor part token place) }
 {
     match token {
         Token::Name(name) => Ok(State::Named(part, AccessText::named(alloc, name, place))),
@@ -49,7 +49,7 @@ fn factor(alloc: Global, part: Part, token: Token, place: u32) -> Result<State, 
 }
 
 fn term(alloc: Global, part: Part, minus: bool, place: u32) -> Result<State, NoteFault>
-    ensures { Gives result (more_terms part minus place) }
+    ensures { GivesNote result (more_terms part minus place) }
 {
     if part.terms.len() < TERMS_MOST - 1 {
         Ok(State::Factor(part.next(alloc, minus)?))
@@ -63,7 +63,7 @@ fn term(alloc: Global, part: Part, minus: bool, place: u32) -> Result<State, Not
 
 #[tactic(auto, unfolding(crate::specs::Positions::at_operator))]
 fn operator(alloc: Global, part: Part, token: Token, place: u32) -> Result<State, NoteFault>
-    ensures { Gives result (at_operator part token place) }
+    ensures { GivesNote result (at_operator part token place) }
 {
     match token {
         Token::Plus => term(alloc, part, false, place),
@@ -90,7 +90,7 @@ pub(crate) fn step(
     token: Token,
     place: u32,
 ) -> Result<State, NoteFault>
-    ensures { Gives result (step_of state token place) }
+    ensures { GivesNote result (step_of state token place) }
 {
     match state {
         State::Start => match token {
@@ -156,7 +156,7 @@ pub(crate) fn step(
 #[tactic(auto, unfolding(crate::specs::Positions::end_of))]
 /// What is read where the text ends.
 pub(crate) fn finish(state: State, place: u32) -> Result<Statement, NoteFault>
-    ensures { Gives result (end_of state place) }
+    ensures { GivesNote result (end_of state place) }
 {
     match state {
         State::Named(part, access) => {

@@ -4,7 +4,7 @@ ghost use Rattle.std.specs.Prelude.{◌≡◌, ◌≤◌, ◌<◌, [], ◌∷◌
 ghost use Rattle.std.specs.List.{prefix_len};
 ghost use Rattle.notation.specs.Tokens.{front_length, front_token, symbol, tokens, word_token, digits_token};
 ghost use Rattle.sam_text.specs.Numbers.{is_decimal};
-ghost use Rattle.sam_text.specs.Bytes.{is_blank as blank_byte, is_digit as digit_byte, is_name_byte as name_byte};
+ghost use Rattle.sam_text.specs.Bytes.{is_blank, is_digit, is_name_byte};
 
 use sam_base::{FILE_MOST, Name};
 use sam_text::{is_blank, is_digit, is_letter, is_name_byte, read_u64};
@@ -44,19 +44,19 @@ pub(crate) struct Found {
 }
 
 fn blank_count(bytes: &[u8]) -> usize
-    ensures { result ≡ prefix_len blank_byte bytes.now }
+    ensures { result ≡ prefix_len is_blank bytes.now }
 {
     bytes.iter().take_while(|byte| is_blank(**byte)).count()
 }
 
 fn word_length(bytes: &[u8]) -> usize
-    ensures { result ≡ prefix_len name_byte bytes.now }
+    ensures { result ≡ prefix_len is_name_byte bytes.now }
 {
     bytes.iter().take_while(|byte| is_name_byte(**byte)).count()
 }
 
 fn digits_length(bytes: &[u8]) -> usize
-    ensures { result ≡ prefix_len digit_byte bytes.now }
+    ensures { result ≡ prefix_len is_digit bytes.now }
 {
     bytes.iter().take_while(|byte| is_digit(**byte)).count()
 }

@@ -11,8 +11,8 @@ use Rattle.sam_model.specs.declared.tensors.Tensor.{Tensor}
 use Rattle.sam_model.specs.Lists.{is_in, items_at}
 use Rattle.sam_model.specs.Accepted.{is_named, distinct_names, distinct, variables_fit, tensor_passes}
 use Rattle.program_file.specs.declared.accesses.Variable.{Variable}
-use Rattle.program_file.specs.Accesses.{is_variable, is_known, repeated, differs, mismatched, joined, tensor_named}
-use Rattle.program_file.specs.Checks.{place_of, places}
+use Rattle.program_file.specs.Accesses.{is_variable, is_known, repeated_variable, differs, mismatched, with_variables, tensor_named}
+use Rattle.program_file.specs.Checks.{loop_place, places}
 use Rattle.program_file.specs.Programs.{size_of, tensor_place}
 
 pub same-name : (a b : List ℕ) → bytes_eq a b ≡ true → a ≡ b
@@ -56,12 +56,12 @@ new-known n d (x ∷ xs) = or_right (is_variable n x) _ (new-known n d xs)
 
 -- joining an access keeps what is known
 joined-step : (t : Bool) (vars : List Variable) (n : List ℕ) (names : List (List ℕ)) (d : ℕ) (dims : List ℕ) (m : List ℕ) → is_known m vars ≡ true
-    → ((vs : List Variable) → is_known m vs ≡ true → (is_known m (joined vs names dims) ≡ true) × (size_of (joined vs names dims) m ≡ size_of vs m))
-    → (is_known m (cond t (joined vars names dims) (joined (vars ++ var n d ∷ []) names dims)) ≡ true) × (size_of (cond t (joined vars names dims) (joined (vars ++ var n d ∷ []) names dims)) m ≡ size_of vars m)
+    → ((vs : List Variable) → is_known m vs ≡ true → (is_known m (with_variables vs names dims) ≡ true) × (size_of (with_variables vs names dims) m ≡ size_of vs m))
+    → (is_known m (with_variables (cond t vars (vars ++ var n d ∷ [])) names dims) ≡ true) × (size_of (with_variables (cond t vars (vars ++ var n d ∷ [])) names dims) m ≡ size_of vars m)
 joined-step true vars n names d dims m k h = h vars k
 joined-step false vars n names d dims m k h = let r = h (vars ++ var n d ∷ []) (push-known m vars (var n d) k) in (r.0, r.1 ∙ push-size m vars (var n d) k)
 
-pub joined-keeps : (names : List (List ℕ)) (dims : List ℕ) (m : List ℕ) (vars : List Variable) → is_known m vars ≡ true → (is_known m (joined vars names dims) ≡ true) × (size_of (joined vars names dims) m ≡ size_of vars m)
+pub joined-keeps : (names : List (List ℕ)) (dims : List ℕ) (m : List ℕ) (vars : List Variable) → is_known m vars ≡ true → (is_known m (with_variables vars names dims) ≡ true) × (size_of (with_variables vars names dims) m ≡ size_of vars m)
 joined-keeps [] dims m vars k = (k, refl)
 joined-keeps (n ∷ names) [] m vars k = (k, refl)
 joined-keeps (n ∷ names) (d ∷ dims) m vars k = joined-step (is_known n vars) vars n names d dims m k (λ vs h. joined-keeps names dims m vs h)
@@ -75,15 +75,15 @@ known-push m (x ∷ xs) n d e = elim (or_cases (is_variable m x) _ e) [
 
 -- what is known behind an access was known, or stands in it
 from-step : (t : Bool) (vars : List Variable) (n : List ℕ) (names : List (List ℕ)) (d : ℕ) (dims : List ℕ) (m : List ℕ)
-    → ((vs : List Variable) → is_known m (joined vs names dims) ≡ true → (is_known m vs ≡ true) ⊎ (is_named m names ≡ true))
-    → is_known m (cond t (joined vars names dims) (joined (vars ++ var n d ∷ []) names dims)) ≡ true → (is_known m vars ≡ true) ⊎ ((bytes_eq m n || is_named m names) ≡ true)
+    → ((vs : List Variable) → is_known m (with_variables vs names dims) ≡ true → (is_known m vs ≡ true) ⊎ (is_named m names ≡ true))
+    → is_known m (with_variables (cond t vars (vars ++ var n d ∷ [])) names dims) ≡ true → (is_known m vars ≡ true) ⊎ ((bytes_eq m n || is_named m names) ≡ true)
 from-step true vars n names d dims m h k = elim (h vars k) [ inl a ↦ inl a | inr b ↦ inr (or_right (bytes_eq m n) _ b) ]
 from-step false vars n names d dims m h k = elim (h (vars ++ var n d ∷ []) k) [
   | inl a ↦ elim (known-push m vars n d a) [ inl b ↦ inl b | inr b ↦ inr (or_left _ _ b) ]
   | inr b ↦ inr (or_right (bytes_eq m n) _ b)
 ]
 
-pub joined-from : (names : List (List ℕ)) (dims : List ℕ) (m : List ℕ) (vars : List Variable) → is_known m (joined vars names dims) ≡ true → (is_known m vars ≡ true) ⊎ (is_named m names ≡ true)
+pub joined-from : (names : List (List ℕ)) (dims : List ℕ) (m : List ℕ) (vars : List Variable) → is_known m (with_variables vars names dims) ≡ true → (is_known m vars ≡ true) ⊎ (is_named m names ≡ true)
 joined-from [] dims m vars k = inl k
 joined-from (n ∷ names) [] m vars k = inl k
 joined-from (n ∷ names) (d ∷ dims) m vars k = from-step (is_known n vars) vars n names d dims m (λ vs h. joined-from names dims m vs h) k
@@ -105,7 +105,7 @@ differs-push : (m : List ℕ) (e : ℕ) (vars : List Variable) (n : List ℕ) (d
 differs-push m e [] n d h = cond-false (bytes_eq m n) _ _ h
 differs-push m e (x ∷ xs) n d h = differs-push-step (is_variable m x) m e x xs (var n d) (differs-push m e xs n d h)
 
-other-name : (a b : List ℕ) → bytes_eq a b ≡ false → bytes_eq b a ≡ false
+pub other-name : (a b : List ℕ) → bytes_eq a b ≡ false → bytes_eq b a ≡ false
 other-name a b h = false_from_ne_true (bytes_eq b a) (λ e. both_ways (bytes_eq a b) h (name-same a b (sym (same-name b a e))))
 
 mismatched-push : (vars : List Variable) (n : List ℕ) (d : ℕ) (names : List (List ℕ)) (dims : List ℕ) → is_named n names ≡ false → mismatched (vars ++ var n d ∷ []) names dims ≡ mismatched vars names dims
@@ -123,27 +123,27 @@ sized-from : (vars more : List Variable) (names : List (List ℕ)) (dims : List 
 sized-from vars more names dims n d k s h = and_from _ _ k (and_from _ _ (eq-eqb _ _ s) h)
 
 joined-sized-step : (t : Bool) (vars : List Variable) (n : List ℕ) (names : List (List ℕ)) (d : ℕ) (dims : List ℕ) → is_known n vars ≡ t → differs n d vars ≡ false → is_named n names ≡ false → mismatched vars names dims ≡ None
-    → ((vs : List Variable) → mismatched vs names dims ≡ None → sized (joined vs names dims) names dims ≡ true)
-    → sized (cond t (joined vars names dims) (joined (vars ++ var n d ∷ []) names dims)) (n ∷ names) (d ∷ dims) ≡ true
+    → ((vs : List Variable) → mismatched vs names dims ≡ None → sized (with_variables vs names dims) names dims ≡ true)
+    → sized (with_variables (cond t vars (vars ++ var n d ∷ [])) names dims) (n ∷ names) (d ∷ dims) ≡ true
 joined-sized-step true vars n names d dims k same alone rest h =
     let r = joined-keeps names dims n vars k in
-    sized-from vars (joined vars names dims) names dims n d r.0 (r.1 ∙ known-size n d vars same k) (h vars rest)
+    sized-from vars (with_variables vars names dims) names dims n d r.0 (r.1 ∙ known-size n d vars same k) (h vars rest)
 joined-sized-step false vars n names d dims k same alone rest h =
     let r = joined-keeps names dims n (vars ++ var n d ∷ []) (new-known n d vars) in
-    sized-from vars (joined (vars ++ var n d ∷ []) names dims) names dims n d r.0 (r.1 ∙ new-size n d vars k) (h (vars ++ var n d ∷ []) (mismatched-push vars n d names dims alone ∙ rest))
+    sized-from vars (with_variables (vars ++ var n d ∷ []) names dims) names dims n d r.0 (r.1 ∙ new-size n d vars k) (h (vars ++ var n d ∷ []) (mismatched-push vars n d names dims alone ∙ rest))
 
-pub joined-sized : (names : List (List ℕ)) (dims : List ℕ) (vars : List Variable) → length names ≡ length dims → repeated names ≡ None → mismatched vars names dims ≡ None → sized (joined vars names dims) names dims ≡ true
+pub joined-sized : (names : List (List ℕ)) (dims : List ℕ) (vars : List Variable) → length names ≡ length dims → repeated_variable names ≡ None → mismatched vars names dims ≡ None → sized (with_variables vars names dims) names dims ≡ true
 joined-sized [] [] vars e r m = refl
 joined-sized [] (d ∷ dims) vars e r m = absurd (omega (arith, e))
 joined-sized (n ∷ names) [] vars e r m = absurd (omega (arith, e))
 joined-sized (n ∷ names) (d ∷ dims) vars e r m =
-    let p = if-none (is_named n names) n (repeated names) r in
+    let p = if-none (is_named n names) n (repeated_variable names) r in
     let q = if-none (differs n d vars) n (mismatched vars names dims) m in
     joined-sized-step (is_known n vars) vars n names d dims refl q.0 p.0 q.1 (λ vs h. joined-sized names dims vs (omega (arith, e)) p.1 h)
 
-pub repeated-distinct : (names : List (List ℕ)) → repeated names ≡ None → distinct_names names ≡ true
+pub repeated-distinct : (names : List (List ℕ)) → repeated_variable names ≡ None → distinct_names names ≡ true
 repeated-distinct [] e = refl
-repeated-distinct (n ∷ names) e = let p = if-none (is_named n names) n (repeated names) e in and_from _ _ (not_from_false _ p.0) (repeated-distinct names p.1)
+repeated-distinct (n ∷ names) e = let p = if-none (is_named n names) n (repeated_variable names) e in and_from _ _ (not_from_false _ p.0) (repeated-distinct names p.1)
 
 pub sized-more : (vars more : List Variable) → ((n : List ℕ) → is_known n vars ≡ true → (is_known n more ≡ true) × (size_of more n ≡ size_of vars n)) → (names : List (List ℕ)) (dims : List ℕ) → sized vars names dims ≡ true → sized more names dims ≡ true
 sized-more vars more h [] [] e = refl
@@ -160,9 +160,9 @@ item-step : (t : Bool) (g : List ℕ → ℕ) (n x : List ℕ) (xs : List (List 
 item-step true g n x xs k e h r = (omega arith, ap g (sym (same-name n x e)))
 item-step false g n x xs k e h r = let p = r h in (omega (arith, p.0), ap (λ i. slice_index (g x ∷ map g xs) i) (one-add k) ∙ p.1)
 
-pub place-item : (g : List ℕ → ℕ) (n : List ℕ) (loops : List (List ℕ)) → is_named n loops ≡ true → (place_of loops n < length loops) × (slice_index (map g loops) (place_of loops n) ≡ g n)
+pub place-item : (g : List ℕ → ℕ) (n : List ℕ) (loops : List (List ℕ)) → is_named n loops ≡ true → (loop_place loops n < length loops) × (slice_index (map g loops) (loop_place loops n) ≡ g n)
 place-item g n [] e = absurd cc
-place-item g n (x ∷ xs) e = item-step (bytes_eq n x) g n x xs (place_of xs n) refl e (place-item g n xs)
+place-item g n (x ∷ xs) e = item-step (bytes_eq n x) g n x xs (loop_place xs n) refl e (place-item g n xs)
 
 place-apart-step : (t u : Bool) (n m x : List ℕ) (xs : List (List ℕ)) (j k : ℕ) → bytes_eq n x ≡ t → bytes_eq m x ≡ u → (t || is_named n xs) ≡ true → cond (not t) (1 + j) 0 ≡ cond (not u) (1 + k) 0 → (is_named n xs ≡ true → j ≡ k → n ≡ m) → n ≡ m
 place-apart-step true true n m x xs j k a b h e r = same-name n x a ∙ sym (same-name m x b)
@@ -170,20 +170,20 @@ place-apart-step true false n m x xs j k a b h e r = absurd (omega (arith, e))
 place-apart-step false true n m x xs j k a b h e r = absurd (omega (arith, e))
 place-apart-step false false n m x xs j k a b h e r = r h (omega (arith, e))
 
-pub place-apart : (n m : List ℕ) (loops : List (List ℕ)) → is_named n loops ≡ true → place_of loops n ≡ place_of loops m → n ≡ m
+pub place-apart : (n m : List ℕ) (loops : List (List ℕ)) → is_named n loops ≡ true → loop_place loops n ≡ loop_place loops m → n ≡ m
 place-apart n m [] h e = absurd cc
-place-apart n m (x ∷ xs) h e = place-apart-step (bytes_eq n x) (bytes_eq m x) n m x xs (place_of xs n) (place_of xs m) refl refl h e (place-apart n m xs)
+place-apart n m (x ∷ xs) h e = place-apart-step (bytes_eq n x) (bytes_eq m x) n m x xs (loop_place xs n) (loop_place xs m) refl refl h e (place-apart n m xs)
 
-pub named-in : (loops : List (List ℕ)) (v : List ℕ) (names : List (List ℕ)) → is_named v names ≡ true → is_in (place_of loops v) (places loops names) ≡ true
+pub named-in : (loops : List (List ℕ)) (v : List ℕ) (names : List (List ℕ)) → is_named v names ≡ true → is_in (loop_place loops v) (places loops names) ≡ true
 named-in loops v [] e = absurd cc
 named-in loops v (n ∷ names) e = elim (or_cases (bytes_eq v n) (is_named v names) e) [
-  | inl h ↦ or_left _ _ (eq-eqb _ _ (ap (λ w. place_of loops w) (same-name v n h)))
-  | inr h ↦ or_right (eqb (place_of loops v) (place_of loops n)) _ (named-in loops v names h)
+  | inl h ↦ or_left _ _ (eq-eqb _ _ (ap (λ w. loop_place loops w) (same-name v n h)))
+  | inr h ↦ or_right (eqb (loop_place loops v) (loop_place loops n)) _ (named-in loops v names h)
 ]
 
-in-named : (loops : List (List ℕ)) (v : List ℕ) (names : List (List ℕ)) → is_named v loops ≡ true → is_in (place_of loops v) (places loops names) ≡ true → is_named v names ≡ true
+pub in-named : (loops : List (List ℕ)) (v : List ℕ) (names : List (List ℕ)) → is_named v loops ≡ true → is_in (loop_place loops v) (places loops names) ≡ true → is_named v names ≡ true
 in-named loops v [] k e = absurd cc
-in-named loops v (n ∷ names) k e = elim (or_cases (eqb (place_of loops v) (place_of loops n)) _ e) [
+in-named loops v (n ∷ names) k e = elim (or_cases (eqb (loop_place loops v) (loop_place loops n)) _ e) [
   | inl h ↦ or_left _ _ (name-same v n (place-apart v n loops k (eqb-true _ _ h)))
   | inr h ↦ or_right (bytes_eq v n) _ (in-named loops v names k h)
 ]
@@ -204,7 +204,7 @@ places-fit vars loops h (n ∷ names) (d ∷ dims) e =
     let p = and_parts _ _ e in
     let q = and_parts _ _ p.1 in
     let r = place-item (size_of vars) n loops (h n p.0) in
-    and_from _ _ (lt-ltb _ _ (subst (λ k. place_of loops n < k) (sym (length-map loops (size_of vars))) r.0)) (and_from _ _ (eq-eqb _ _ (r.1 ∙ eqb-true _ _ q.0)) (places-fit vars loops h names dims q.1))
+    and_from _ _ (lt-ltb _ _ (subst (λ k. loop_place loops n < k) (sym (length-map loops (size_of vars))) r.0)) (and_from _ _ (eq-eqb _ _ (r.1 ∙ eqb-true _ _ q.0)) (places-fit vars loops h names dims q.1))
 
 pub sized-named : (vars : List Variable) (loops : List (List ℕ)) → ((n : List ℕ) → is_known n vars ≡ true → is_named n loops ≡ true) → (names : List (List ℕ)) (dims : List ℕ) → sized vars names dims ≡ true → list_all (λ n. is_named n loops) names ≡ true
 sized-named vars loops h [] [] e = refl
@@ -236,13 +236,13 @@ loop-named [] k h = absurd (omega (arith, h))
 loop-named (x ∷ xs) zero h = or_left _ _ (name-same x x refl)
 loop-named (x ∷ xs) (suc k) h = or_right (bytes_eq (loop_at xs k) x) _ (loop-named xs k (omega (arith, h)))
 
-pub own-place : (loops : List (List ℕ)) (k : ℕ) → distinct_names loops ≡ true → k < length loops → place_of loops (loop_at loops k) ≡ k
+pub own-place : (loops : List (List ℕ)) (k : ℕ) → distinct_names loops ≡ true → k < length loops → loop_place loops (loop_at loops k) ≡ k
 own-place [] k d h = absurd (omega (arith, h))
 own-place (x ∷ xs) zero d h = cond-false (not (bytes_eq x x)) _ _ (not_from_true _ (name-same x x refl))
 own-place (x ∷ xs) (suc k) d h =
     let p = and_parts _ _ d in
     let less : k < length xs = omega (arith, h) in
-    own-step (bytes_eq (loop_at xs k) x) x (loop_at xs k) xs k (place_of xs (loop_at xs k)) refl (not-true _ p.0) (loop-named xs k less) (own-place xs k p.1 less)
+    own-step (bytes_eq (loop_at xs k) x) x (loop_at xs k) xs k (loop_place xs (loop_at xs k)) refl (not-true _ p.0) (loop-named xs k less) (own-place xs k p.1 less)
 
 -- a test on all loops holds at each
 pub all-at : (p : List ℕ → Bool) (loops : List (List ℕ)) (k : ℕ) → list_all p loops ≡ true → k < length loops → p (loop_at loops k) ≡ true

@@ -7,40 +7,40 @@ use Rattle.std.specs.Str.{bytes_eq}
 use Rattle.std.proofs.lemmas.List.{length-map}
 use Rattle.std.proofs.lemmas.List.Splits.{length-slice_split}
 use mathlib.Core.List.{map}
-use Rattle.sam_text.specs.Lines.{lines}
+use Rattle.sam_text.specs.Counted.{NumberedLine}
 use Rattle.sam_text.specs.Words.{words}
 use Rattle.sam_text.specs.Names.{is_name}
 use Rattle.sam_model.specs.declared.tensors.Tensor.{Tensor}
 use Rattle.sam_model.specs.Accepted.{is_operand, is_result, is_well_formed, is_dimension, is_compressed, is_taken, distinct_tensors, declarations_fit, is_order, statement_fits, accepted}
 use Rattle.notation.specs.declared.statement.Statement.{Statement}
 use Rattle.program_file.specs.declared.files.File.{File}
-use Rattle.program_file.specs.Refusals.{Refusal, refuse, after}
-use Rattle.program_file.specs.Lines.{Line, kept, starts, others, behind_word}
+use Rattle.program_file.specs.Refusals.{ProgramRefusal, program_refused, and_then}
+use Rattle.program_file.specs.Keywords.{tensor_word, result_word, starts, others}
 use Rattle.program_file.specs.Declarations.{parts, numbers, capped, format_of, is_shape, tensor_with, scalar, tensor_of, result_of, declared, all_compressed, is_printable}
-use Rattle.program_file.specs.Files.{at_end, with_loops, loop_names, at_loops, at_statement, noted, result_declared, at_declarations, file_of, tensor_word, result_word, compute_word, starts_again}
-use Rattle.notation.specs.Positions.{reading}
+use Rattle.program_file.specs.Files.{result_declared, declarations_in, compute_in, loops_in, end_in, file_with, parts_in}
 use Rattle.sam_base.specs.declared.faults.ProgramKind.{ProgramKind}
-use Rattle.sam_base.specs.declared.faults.ProgramKind.TheVariants.{TooManyVariables}
-use Rattle.sam_model.specs.declared.program.Program.{Program}
-use Rattle.program_file.specs.declared.accesses.Variable.{Variable}
 use Rattle.program_file.specs.Accesses.{unless}
-use Rattle.program_file.specs.Checks.{are_loops, terms_fault}
-use Rattle.program_file.specs.Programs.{program_of, order_fault, loops_checked, statement_checked, bound_of, checked}
 
-pub record After {Y Z : Type 0} (r : Result Y Refusal) (f : Y → Result Z Refusal) (z : Z) : Type 0 where
+pub record Then {Y Z : Type 0} (r : Result Y ProgramRefusal) (f : Y → Result Z ProgramRefusal) (z : Z) : Type 0 where
   pub value : Y
   pub was : r ≡ Ok value
   pub next : f value ≡ Ok z
 
-pub after-ok : {Y Z : Type 0} (r : Result Y Refusal) (next : Y → Result Z Refusal) (z : Z) → after r next ≡ Ok z → After r next z
-after-ok (Ok y) next z e = record { value = y; was = refl; next = e }
-after-ok (Err r) next z e = absurd cc
+pub then-ok : {Y Z : Type 0} (r : Result Y ProgramRefusal) (next : Y → Result Z ProgramRefusal) (z : Z) → and_then r next ≡ Ok z → Then r next z
+then-ok (Ok y) next z e = record { value = y; was = refl; next = e }
+then-ok (Err r) next z e = absurd cc
 
-pub if-ok : {Y : Type 0} (b : Bool) (x y : Result Y Refusal) (z : Y) → cond b x y ≡ Ok z → ((b ≡ true) × (x ≡ Ok z)) ⊎ ((b ≡ false) × (y ≡ Ok z))
+abbrev pub read_as : {Y : Type 0} → Y → Result Y ProgramRefusal
+read_as x = Ok x
+
+pub ok-same : {Y : Type 0} (x y : Y) → read_as x ≡ read_as y → x ≡ y
+ok-same x y e = cc
+
+pub if-ok : {Y : Type 0} (b : Bool) (x y : Result Y ProgramRefusal) (z : Y) → cond b x y ≡ Ok z → ((b ≡ true) × (x ≡ Ok z)) ⊎ ((b ≡ false) × (y ≡ Ok z))
 if-ok true x y z e = inl (refl, e)
 if-ok false x y z e = inr (refl, e)
 
-pub no_refusal : {Y : Type 0} (x : Result Y Refusal) (r : Refusal) (z : Y) → x ≡ Err r → x ≡ Ok z → ⊥
+pub no_refusal : {Y : Type 0} (x : Result Y ProgramRefusal) (r : ProgramRefusal) (z : Y) → x ≡ Err r → x ≡ Ok z → ⊥
 no_refusal (Ok y) r z h e = absurd cc
 no_refusal (Err y) r z h e = absurd cc
 
@@ -130,76 +130,63 @@ apart-push (x ∷ xs) t h k =
 push-declared : (ts : List Tensor) (t : Tensor) → Declared ts → is_operand t ≡ true → is_taken t.name ts ≡ false → Declared (ts ++ t ∷ [])
 push-declared ts t h k new = record { each = all-push ts t h.each k; apart = apart-push ts t h.apart new }
 
--- the declarations of the file that is read
-pub record Has (f : File) (ts : List Tensor) (r : Tensor) : Type 0 where
-  pub tensors : f.tensors ≡ ts
-  pub result : f.result ≡ r
-
-end-has : (file : File) (ls : List Line) (f : File) → at_end file ls ≡ Ok f → Has f file.tensors file.result
-end-has file [] f e = let same : file ≡ f = cc in record { tensors = ap (λ (x : File). x.tensors) (sym same); result = ap (λ (x : File). x.result) (sym same) }
-end-has file (l ∷ ls) f e = elim (if-ok (starts_again (words l.text)) _ _ f e) [ inl h ↦ absurd (no_refusal _ _ f refl h.1) | inr h ↦ absurd (no_refusal _ _ f refl h.1) ]
-
-with_loops-has : (tensors : List Tensor) (result : Tensor) (s : Statement) (line : ℕ) (l : Line) (ls : List Line) (o : Option (List (List ℕ))) (f : File) → with_loops tensors result s line l ls o ≡ Ok f → Has f tensors result
-with_loops-has tensors result s line l ls None f e = absurd (no_refusal _ _ f refl e)
-with_loops-has tensors result s line l ls (Some names) f e = end-has _ ls f e
-
-loops-has : (past : ℕ) (tensors : List Tensor) (result : Tensor) (s : Statement) (line : ℕ) (ls : List Line) (f : File) → at_loops past tensors result s line ls ≡ Ok f → Has f tensors result
-loops-has past tensors result s line [] f e = absurd (no_refusal _ _ f refl e)
-loops-has past tensors result s line (l ∷ ls) f e = with_loops-has tensors result s line l ls (loop_names (words l.text)) f e
-
-pub statement-has : (past : ℕ) (tensors : List Tensor) (result : Tensor) (ls : List Line) (f : File) → at_statement past tensors result ls ≡ Ok f → Has f tensors result
-statement-has past tensors result [] f e = absurd (no_refusal _ _ f refl e)
-statement-has past tensors result (l ∷ ls) f e = elim (if-ok (starts compute_word (words l.text)) _ _ f e) [
-  | inl h ↦ let a = after-ok (noted l.number (reading (behind_word l.text))) (λ s. at_loops past tensors result s l.number ls) f h.1 in loops-has past tensors result a.value l.number ls f a.next
-  | inr h ↦ absurd (no_refusal _ _ f refl h.1)
-]
-
-fits-along : (f : File) (tensors : List Tensor) (result : Tensor) → Has f tensors result → declarations_fit tensors result ≡ true → declarations_fit f.tensors f.result ≡ true
-fits-along f tensors result h e = ap (λ ts. declarations_fit ts f.result) h.tensors ∙ ap (λ t. declarations_fit tensors t) h.result ∙ e
-
 option-if : (b : Bool) (o : Option Tensor) (t : Tensor) → cond b o None ≡ Some t → o ≡ Some t
 option-if true o t e = e
 option-if false o t e = absurd cc
 
-result-ok : (tensors : List Tensor) (l : Line) (t : Tensor) → Declared tensors → result_declared tensors l ≡ Ok t → declarations_fit tensors t ≡ true
+result-ok : (tensors : List Tensor) (l : NumberedLine) (t : Tensor) → Declared tensors → result_declared tensors l ≡ Ok t → declarations_fit tensors t ≡ true
 result-ok tensors l t h e =
     let found = cond (starts result_word (words l.text)) (result_of (others (words l.text))) None in
-    let a = after-ok (declared tensors l.number found) (all_compressed l.number) t e in
+    let a = then-ok (declared tensors l.number found) (all_compressed l.number) t e in
     let d = declared-ok tensors l.number found a.value a.was in
     let c = compressed-ok l.number a.value t a.next in
     let fits = result-fits (others (words l.text)) a.value (option-if (starts result_word (words l.text)) _ _ d.is) d.dims in
     subst (λ (x : Tensor). declarations_fit tensors x ≡ true) c.0 (and_from _ _ h.each (and_from _ _ (and_from _ _ fits c.1) (and_from _ _ h.apart (not_from_false _ d.new))))
 
-pub declarations-fit : (past : ℕ) (tensors : List Tensor) (ls : List Line) (f : File) → Declared tensors → at_declarations past tensors ls ≡ Ok f → declarations_fit f.tensors f.result ≡ true
-declarations-fit past tensors [] f h e = absurd (no_refusal _ _ f refl e)
-declarations-fit past tensors (l ∷ ls) f h e = elim (if-ok (starts tensor_word (words l.text)) _ _ f e) [
+pub declarations-fit : (past : ℕ) (tensors : List Tensor) (ls : List NumberedLine) (found : (List Tensor × Tensor) × List NumberedLine) → Declared tensors
+    → declarations_in past tensors ls ≡ Ok found → declarations_fit found.0.0 found.0.1 ≡ true
+declarations-fit past tensors [] found h e = absurd (no_refusal _ _ found refl e)
+declarations-fit past tensors (l ∷ ls) found h e = elim (if-ok (starts tensor_word (words l.text)) _ _ found e) [
   | inl k ↦
-      let a = after-ok (declared tensors l.number (tensor_of (others (words l.text)))) (λ t. at_declarations past (tensors ++ t ∷ []) ls) f k.1 in
+      let a = then-ok (declared tensors l.number (tensor_of (others (words l.text)))) (λ t. declarations_in past (tensors ++ t ∷ []) ls) found k.1 in
       let d = declared-ok tensors l.number (tensor_of (others (words l.text))) a.value a.was in
-      declarations-fit past (tensors ++ a.value ∷ []) ls f (push-declared tensors a.value h (tensor-fits (others (words l.text)) a.value d.is d.dims) d.new) a.next
+      declarations-fit past (tensors ++ a.value ∷ []) ls found (push-declared tensors a.value h (tensor-fits (others (words l.text)) a.value d.is d.dims) d.new) a.next
   | inr k ↦
-      let a = after-ok (result_declared tensors l) (λ t. at_statement past tensors t ls) f k.1 in
-      fits-along f tensors a.value (statement-has past tensors a.value ls f a.next) (result-ok tensors l a.value h a.was)
+      let a = then-ok (result_declared tensors l) (λ result. Ok ((tensors, result), ls)) found k.1 in
+      let same : ((tensors, a.value), ls) ≡ found = ok-same ((tensors, a.value), ls) found a.next in
+      let F : (List Tensor × Tensor) × List NumberedLine → Type 0 = λ x. declarations_fit x.0.0 x.0.1 ≡ true in
+      subst F same (result-ok tensors l a.value h a.was)
 ]
 
-pub file-fits : (text : List ℕ) (f : File) → file_of text ≡ Ok f → declarations_fit f.tensors f.result ≡ true
-file-fits text f e = declarations-fit (length (lines text) + 1) [] (kept 1 (lines text)) f (record { each = refl; apart = refl }) e
+-- the parts of a file that is read
+pub record IsRead (past : ℕ) (ls : List NumberedLine) (f : File) : Type 0 where
+  pub declared : (List Tensor × Tensor) × List NumberedLine
+  pub statement : (Statement × ℕ) × List NumberedLine
+  pub loops : (List (List ℕ) × ℕ) × List NumberedLine
+  pub declared_in : declarations_in past [] ls ≡ Ok declared
+  pub statement_in : compute_in past declared.1 ≡ Ok statement
+  pub is : file_with declared.0 statement.0 loops.0 ≡ f
+
+pub parts-ok : (past : ℕ) (ls : List NumberedLine) (f : File) → parts_in past ls ≡ Ok f → IsRead past ls f
+parts-ok past ls f e =
+    let d = then-ok (declarations_in past [] ls) (λ d. and_then (compute_in past d.1) (λ s. and_then (loops_in past s.1) (λ l. and_then (end_in l.1) (λ _. Ok (file_with d.0 s.0 l.0))))) f e in
+    let s = then-ok (compute_in past d.value.1) (λ s. and_then (loops_in past s.1) (λ l. and_then (end_in l.1) (λ _. Ok (file_with d.value.0 s.0 l.0)))) f d.next in
+    let l = then-ok (loops_in past s.value.1) (λ l. and_then (end_in l.1) (λ _. Ok (file_with d.value.0 s.value.0 l.0))) f s.next in
+    let n = then-ok (end_in l.value.1) (λ _. Ok (file_with d.value.0 s.value.0 l.value.0)) f l.next in
+    record {
+      declared = d.value;
+      statement = s.value;
+      loops = l.value;
+      declared_in = d.was;
+      statement_in = s.was;
+      is = ok-same (file_with d.value.0 s.value.0 l.value.0) f n.next;
+    }
+
+pub file-fits : (past : ℕ) (ls : List NumberedLine) (f : File) → IsRead past ls f → declarations_fit f.tensors f.result ≡ true
+file-fits past ls f r =
+    let F : File → Type 0 = λ g. declarations_fit g.tensors g.result ≡ true in
+    subst F r.is (declarations-fit past [] ls r.declared (record { each = refl; apart = refl }) r.declared_in)
 
 pub unless-ok : {Y : Type 0} (line : ℕ) (o : Option ProgramKind) (x z : Y) → unless line o x ≡ Ok z → x ≡ z
 unless-ok line None x z e = cc
 unless-ok line (Some kind) x z e = absurd cc
-
--- the program that a file writes has its declarations
-pub written : (f : File) (vars : List Variable) (p : Program) → loops_checked f vars ≡ Ok p → program_of f vars ≡ p
-written f vars p e = elim (if-ok (not (are_loops vars f.loops)) _ _ p e) [
-  | inl h ↦ absurd (no_refusal _ _ p refl h.1)
-  | inr h ↦ unless-ok f.loops_line (order_fault f) (program_of f vars) p h.1
-]
-
-statement-written : (f : File) (vars : List Variable) (p : Program) → statement_checked f vars ≡ Ok p → (bound : List Variable) × (program_of f bound ≡ p)
-statement-written f vars p e =
-    let a = after-ok (unless f.statement_line (terms_fault f.statement.left.vars f.statement.terms) vars) (λ bound. cond (nat_lt 8 (length bound)) (refuse TooManyVariables f.statement_line) (loops_checked f bound)) p e in
-    elim (if-ok (nat_lt 8 (length a.value)) _ _ p a.next) [
-      | inl h ↦ absurd (no_refusal _ _ p refl h.1)
-      | inr h ↦ (a.value, written f a.value p h.1)
-    ]

@@ -1,7 +1,10 @@
-pub mod LineLemmas
 pub mod PartLemmas
 pub mod DeclaredLemmas
 pub mod NameLemmas
 pub mod BoundLemmas
 pub mod FitLemmas
 pub mod FileLemmas
+pub mod NameSets
+pub mod CompleteBinds
+pub mod CompleteChecks
+pub mod CompleteLemmas

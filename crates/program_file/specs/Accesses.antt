@@ -11,7 +11,7 @@ use Rattle.notation.specs.declared.statement.FactorText.{FactorText}
 use Rattle.notation.specs.declared.statement.FactorText.TheVariants.{Access, Literal}
 use Rattle.notation.specs.declared.statement.TermText.{TermText}
 use Rattle.program_file.specs.declared.accesses.Variable.{Variable}
-use Rattle.program_file.specs.Refusals.{Refusal, refuse, after}
+use Rattle.program_file.specs.Refusals.{ProgramRefusal, program_refused, and_then}
 
 abbrev pub is_variable : List ℕ → Variable → Bool
 is_variable name v = bytes_eq name v.name
@@ -20,9 +20,9 @@ abbrev pub is_known : List ℕ → List Variable → Bool
 is_known name vars = list_any (is_variable name) vars
 
 -- the first variable that stands twice
-abbrev pub repeated : List (List ℕ) → Option (List ℕ)
-repeated [] = None
-repeated (v ∷ vs) = if is_named v vs then Some v else repeated vs
+abbrev pub repeated_variable : List (List ℕ) → Option (List ℕ)
+repeated_variable [] = None
+repeated_variable (v ∷ vs) = if is_named v vs then Some v else repeated_variable vs
 
 -- the dimension at a variable's first place is another
 abbrev pub differs : List ℕ → ℕ → List Variable → Bool
@@ -35,55 +35,59 @@ mismatched vars [] dims = None
 mismatched vars (name ∷ names) [] = None
 mismatched vars (name ∷ names) (d ∷ dims) = if differs name d vars then Some name else mismatched vars names dims
 
--- the variables in the order of their first places, with those of one more access
-abbrev pub joined : List Variable → List (List ℕ) → List ℕ → List Variable
-joined vars [] dims = vars
-joined vars (name ∷ names) [] = vars
-joined vars (name ∷ names) (d ∷ dims) = if is_known name vars then joined vars names dims else joined (vars ++ (record { name = name; size = d }) ∷ []) names dims
+-- a variable behind those so far, unless it is known
+abbrev pub with_variable : List Variable → List ℕ → ℕ → List Variable
+with_variable vars name size = if is_known name vars then vars else vars ++ (record { name = name; size = size }) ∷ []
 
-abbrev pub kind_of : (List ℕ → ProgramKind) → Option (List ℕ) → Option ProgramKind → Option ProgramKind
-kind_of kind None next = next
-kind_of kind (Some name) next = Some (kind name)
+-- the variables in the order of their first places, with those of one more access
+abbrev pub with_variables : List Variable → List (List ℕ) → List ℕ → List Variable
+with_variables vars [] dims = vars
+with_variables vars (name ∷ names) [] = vars
+with_variables vars (name ∷ names) (d ∷ dims) = with_variables (with_variable vars name d) names dims
+
+abbrev pub named_kind : (List ℕ → ProgramKind) → Option (List ℕ) → Option ProgramKind → Option ProgramKind
+named_kind kind None next = next
+named_kind kind (Some name) next = Some (kind name)
 
 -- the first fault of an access of this tensor
 abbrev pub access_fault : List Variable → AccessText → Tensor → Option ProgramKind
 access_fault vars a t =
     if not (length a.vars == length t.dims) then Some (ArityMismatch a.name)
-    else kind_of RepeatedVariable (repeated a.vars) (kind_of DimMismatch (mismatched vars a.vars t.dims) None)
+    else named_kind RepeatedVariable (repeated_variable a.vars) (named_kind DimMismatch (mismatched vars a.vars t.dims) None)
 
-abbrev pub unless : {Y : Type 0} → ℕ → Option ProgramKind → Y → Result Y Refusal
+abbrev pub unless : {Y : Type 0} → ℕ → Option ProgramKind → Y → Result Y ProgramRefusal
 unless line None x = Ok x
-unless line (Some kind) x = refuse kind line
+unless line (Some kind) x = program_refused kind line
 
-abbrev pub bind_access : ℕ → List Variable → AccessText → Tensor → Result (List Variable) Refusal
-bind_access line vars a t = unless line (access_fault vars a t) (joined vars a.vars t.dims)
+abbrev pub bind_access : ℕ → List Variable → AccessText → Tensor → Result (List Variable) ProgramRefusal
+bind_access line vars a t = unless line (access_fault vars a t) (with_variables vars a.vars t.dims)
 
 abbrev pub tensor_named : List ℕ → List Tensor → Option Tensor
 tensor_named name [] = None
 tensor_named name (t ∷ ts) = if bytes_eq name t.name then Some t else tensor_named name ts
 
 -- on the left only the result stands
-abbrev pub bind_left : ℕ → Tensor → AccessText → Result (List Variable) Refusal
-bind_left line result a = if bytes_eq a.name result.name then bind_access line [] a result else refuse (UnknownName a.name) line
+abbrev pub bind_left : ℕ → Tensor → AccessText → Result (List Variable) ProgramRefusal
+bind_left line result a = if bytes_eq a.name result.name then bind_access line [] a result else program_refused (UnknownName a.name) line
 
-abbrev pub bind_named : ℕ → List Variable → AccessText → Option Tensor → Result (List Variable) Refusal
-bind_named line vars a None = refuse (UnknownName a.name) line
+abbrev pub bind_named : ℕ → List Variable → AccessText → Option Tensor → Result (List Variable) ProgramRefusal
+bind_named line vars a None = program_refused (UnknownName a.name) line
 bind_named line vars a (Some t) = bind_access line vars a t
 
 -- on the right only declared tensors stand
-abbrev pub bind_right : ℕ → List Tensor → Tensor → List Variable → AccessText → Result (List Variable) Refusal
+abbrev pub bind_right : ℕ → List Tensor → Tensor → List Variable → AccessText → Result (List Variable) ProgramRefusal
 bind_right line tensors result vars a =
-    if bytes_eq a.name result.name then refuse (ResultOnRight a.name) line
+    if bytes_eq a.name result.name then program_refused (ResultOnRight a.name) line
     else bind_named line vars a (tensor_named a.name tensors)
 
-abbrev pub bind_factor : ℕ → List Tensor → Tensor → List Variable → FactorText → Result (List Variable) Refusal
+abbrev pub bind_factor : ℕ → List Tensor → Tensor → List Variable → FactorText → Result (List Variable) ProgramRefusal
 bind_factor line tensors result vars (Access a) = bind_right line tensors result vars a
 bind_factor line tensors result vars (Literal n) = Ok vars
 
-abbrev pub bind_factors : ℕ → List Tensor → Tensor → List Variable → List FactorText → Result (List Variable) Refusal
+abbrev pub bind_factors : ℕ → List Tensor → Tensor → List Variable → List FactorText → Result (List Variable) ProgramRefusal
 bind_factors line tensors result vars [] = Ok vars
-bind_factors line tensors result vars (x ∷ xs) = after (bind_factor line tensors result vars x) (λ more. bind_factors line tensors result more xs)
+bind_factors line tensors result vars (x ∷ xs) = and_then (bind_factor line tensors result vars x) (λ more. bind_factors line tensors result more xs)
 
-abbrev pub bind_terms : ℕ → List Tensor → Tensor → List Variable → List TermText → Result (List Variable) Refusal
+abbrev pub bind_terms : ℕ → List Tensor → Tensor → List Variable → List TermText → Result (List Variable) ProgramRefusal
 bind_terms line tensors result vars [] = Ok vars
-bind_terms line tensors result vars (x ∷ xs) = after (bind_factors line tensors result vars x.factors) (λ more. bind_terms line tensors result more xs)
+bind_terms line tensors result vars (x ∷ xs) = and_then (bind_factors line tensors result vars x.factors) (λ more. bind_terms line tensors result more xs)

@@ -18,29 +18,29 @@ use Rattle.notation.specs.declared.statement.FactorText.TheVariants.{Access, Lit
 use Rattle.notation.specs.declared.statement.TermText.{TermText}
 use Rattle.program_file.specs.declared.accesses.Variable.{Variable}
 use Rattle.program_file.specs.declared.files.File.{File}
-use Rattle.program_file.specs.Refusals.{Refusal, refuse, after}
-use Rattle.program_file.specs.Accesses.{is_known, is_variable, tensor_named, bind_left, bind_terms, kind_of, unless}
-use Rattle.program_file.specs.Files.{file_of}
+use Rattle.program_file.specs.Refusals.{ProgramRefusal, program_refused, and_then}
+use Rattle.program_file.specs.Accesses.{is_known, is_variable, tensor_named, bind_left, bind_terms, named_kind, unless}
+use Rattle.program_file.specs.Files.{file_reading}
 
-abbrev pub is_access : FactorText → Bool
-is_access (Access a) = true
-is_access (Literal n) = false
+abbrev pub is_access_text : FactorText → Bool
+is_access_text (Access a) = true
+is_access_text (Literal n) = false
 
 -- a variable stands in a factor
-abbrev pub factor_has : List ℕ → FactorText → Bool
-factor_has v (Access a) = is_named v a.vars
-factor_has v (Literal n) = false
+abbrev pub factor_text_has : List ℕ → FactorText → Bool
+factor_text_has v (Access a) = is_named v a.vars
+factor_text_has v (Literal n) = false
 
-unfoldable pub term_has : TermText → List ℕ → Bool
-term_has t v = list_any (factor_has v) t.factors
+unfoldable pub term_text_has : TermText → List ℕ → Bool
+term_text_has t v = list_any (factor_text_has v) t.factors
 
 -- the first variable of the left that a term lacks
 abbrev pub missing : TermText → List (List ℕ) → Option (List ℕ)
 missing t [] = None
-missing t (v ∷ vs) = if term_has t v then missing t vs else Some v
+missing t (v ∷ vs) = if term_text_has t v then missing t vs else Some v
 
 abbrev pub term_fault : List (List ℕ) → TermText → Option ProgramKind
-term_fault left t = if list_any is_access t.factors then kind_of MissingResultVariable (missing t left) None else Some NoAccess
+term_fault left t = if list_any is_access_text t.factors then named_kind MissingResultVariable (missing t left) None else Some NoAccess
 
 abbrev pub first_of : Option ProgramKind → Option ProgramKind → Option ProgramKind
 first_of None next = next
@@ -58,11 +58,11 @@ are_loops vars loops =
     && (distinct_names loops && list_all (λ v. is_named v.name loops) vars))
 
 -- the place of a variable in the loops
-abbrev pub place_of : List (List ℕ) → List ℕ → ℕ
-place_of loops name = position_or_len (bytes_eq name) loops
+abbrev pub loop_place : List (List ℕ) → List ℕ → ℕ
+loop_place loops name = position_or_len (bytes_eq name) loops
 
 abbrev pub places : List (List ℕ) → List (List ℕ) → List ℕ
-places loops names = map (place_of loops) names
+places loops names = map (loop_place loops) names
 
 -- an access whose variables in storage order don't stand in loop order
 abbrev pub access_discordant : List (List ℕ) → AccessText → Tensor → Option ProgramKind
@@ -81,11 +81,11 @@ abbrev pub terms_discordant : List Tensor → List (List ℕ) → List TermText 
 terms_discordant tensors loops [] = None
 terms_discordant tensors loops (t ∷ ts) = first_of (factors_discordant tensors loops t.factors) (terms_discordant tensors loops ts)
 
--- how many variables of the left come after a variable in the loops
+-- how many variables of the left come and_then a variable in the loops
 abbrev pub count_after : List (List ℕ) → List (List ℕ) → List ℕ → ℕ
-count_after loops left name = count_by (λ w. nat_lt (place_of loops name) (place_of loops w)) left
+count_after loops left name = count_by (λ w. nat_lt (loop_place loops name) (loop_place loops w)) left
 
--- a variable that is summed over, with more than two variables of the left after it
+-- a variable that is summed over, with more than two variables of the left and_then it
 unfoldable pub is_too_deep : List (List ℕ) → List (List ℕ) → List ℕ → Bool
 is_too_deep loops left name = not (is_named name left) && nat_lt 2 (count_after loops left name)
 

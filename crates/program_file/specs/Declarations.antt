@@ -9,7 +9,7 @@ use Rattle.sam_model.specs.declared.tensors.Format.{Format}
 use Rattle.sam_model.specs.declared.tensors.Format.TheVariants.{Dense, Compressed}
 use Rattle.sam_model.specs.declared.tensors.Tensor.{Tensor}
 use Rattle.sam_model.specs.Accepted.{is_dimension, is_order, is_compressed, is_taken}
-use Rattle.program_file.specs.Refusals.{Refusal, refuse}
+use Rattle.program_file.specs.Refusals.{ProgramRefusal, program_refused}
 
 -- decimals with a byte between them
 abbrev pub parts : ℕ → List ℕ → List (List ℕ)
@@ -26,30 +26,30 @@ abbrev pub numbers : ℕ → List ℕ → List ℕ
 numbers byte word = map capped (parts byte word)
 
 -- `d` or `c`
-abbrev pub is_letter : ℕ → Bool
-is_letter b = b == 100 || b == 99
+abbrev pub is_format_letter : ℕ → Bool
+is_format_letter b = b == 100 || b == 99
 
 abbrev pub format_of : ℕ → Format
 format_of b = if b == 100 then Dense else Compressed
 
--- modes are written from 1
-abbrev pub modes : List ℕ → List ℕ
-modes numbers = map (λ n. n - 1) numbers
+-- zero_based are written from 1
+abbrev pub zero_based : List ℕ → List ℕ
+zero_based numbers = map (λ n. n - 1) numbers
 
--- one to eight dimensions, as many letters, and a permutation of the modes
+-- one to eight dimensions, as many letters, and a permutation of the zero_based
 abbrev pub is_shape : List ℕ → List ℕ → List ℕ → Bool
 is_shape dims formats order =
     are_decimals 120 dims && (nat_le (length (numbers 120 dims)) 8
-    && (list_all is_letter formats && (length formats == length (numbers 120 dims)
+    && (list_all is_format_letter formats && (length formats == length (numbers 120 dims)
     && (are_decimals 44 order && (list_all (nat_le 1) (numbers 44 order)
-    && is_order (length (numbers 120 dims)) (modes (numbers 44 order)))))))
+    && is_order (length (numbers 120 dims)) (zero_based (numbers 44 order)))))))
 
 abbrev pub tensor_with : List ℕ → List ℕ → List ℕ → List ℕ → List ℕ → Tensor
 tensor_with name dims formats order file = record {
   name = name;
   dims = numbers 120 dims;
   formats = map format_of formats;
-  order = modes (numbers 44 order);
+  order = zero_based (numbers 44 order);
   file = file;
 }
 
@@ -73,13 +73,13 @@ result_of (name ∷ dims ∷ formats ∷ order ∷ []) = if is_name name && is_s
 result_of words = None
 
 -- A declaration is refused for its form, then for its dimensions, then for its name.
-abbrev pub declared : List Tensor → ℕ → Option Tensor → Result Tensor Refusal
-declared tensors line None = refuse BadLine line
+abbrev pub declared : List Tensor → ℕ → Option Tensor → Result Tensor ProgramRefusal
+declared tensors line None = program_refused BadLine line
 declared tensors line (Some t) =
-    if not (list_all is_dimension t.dims) then refuse DimensionRange line
-    else (if is_taken t.name tensors then refuse (DuplicateName t.name) line
+    if not (list_all is_dimension t.dims) then program_refused DimensionRange line
+    else (if is_taken t.name tensors then program_refused (DuplicateName t.name) line
     else Ok t)
 
 -- a result is refused last for a dense level
-abbrev pub all_compressed : ℕ → Tensor → Result Tensor Refusal
-all_compressed line t = if list_all is_compressed t.formats then Ok t else refuse DenseResult line
+abbrev pub all_compressed : ℕ → Tensor → Result Tensor ProgramRefusal
+all_compressed line t = if list_all is_compressed t.formats then Ok t else program_refused DenseResult line

@@ -1,9 +1,9 @@
 pub mod Refusals
-pub mod Lines
-pub mod Cursors
+pub mod Keywords
 pub mod Declarations
 pub mod Files
 pub mod Accesses
 pub mod Checks
 pub mod Programs
 pub mod Names
+pub mod Written

@@ -1,8 +1,9 @@
 //! The variables of a statement, bound access by access.
 
-ghost use Rattle.std.specs.Prelude.{◌≡◌, None, Some, option_copied, IfOk, MatchOption};
-ghost use Rattle.program_file.specs.Accesses.{access_fault as first_fault, bind_access as bound_access, bind_factor as bound_factor, bind_factors as bound_factors, bind_left as bound_left, bind_right as bound_right, bind_terms as bound_terms, differs as other_size, is_known as among, joined as with_access, mismatched as first_mismatched, repeated as first_repeated, tensor_named as named_tensor};
-ghost use Rattle.program_file.specs.Refusals.{Gives};
+ghost use Rattle.std.specs.Prelude.{◌≡◌, None, Some, [], option_copied, IfOk, OnOk, MatchOption};
+ghost use Rattle.program_file.specs.Accesses.{tensor_named, is_known, repeated_variable, differs, mismatched, with_variable, with_variables};
+ghost use Rattle.program_file.specs.Accesses.{access_fault, bind_access, bind_left, bind_right, bind_factors, bind_terms};
+ghost use Rattle.program_file.specs.Refusals.{LeavesProgram};
 
 use crate::faults::ProgramFault;
 use notation::{AccessText, FactorText, TermText};
@@ -19,8 +20,8 @@ pub(crate) struct Variable {
 
 /// A declared tensor by its name.
 pub(crate) fn tensor_named<'a>(name: &[u8], tensors: &'a [Tensor]) -> Option<&'a Tensor>
-    ensures { MatchOption result (named_tensor name.now tensors.now ≡ None)
-        (λ tensor. named_tensor name.now tensors.now ≡ Some tensor.now) }
+    ensures { MatchOption result (tensor_named name.now tensors.now ≡ None)
+        (λ tensor. tensor_named name.now tensors.now ≡ Some tensor.now) }
 {
     for tensor in tensors {
         if name == tensor.name.as_bytes() {
@@ -31,14 +32,14 @@ pub(crate) fn tensor_named<'a>(name: &[u8], tensors: &'a [Tensor]) -> Option<&'a
 }
 
 pub(crate) fn is_known(name: &[u8], vars: &[Variable]) -> bool
-    ensures { result ≡ among name.now vars.now }
+    ensures { result ≡ is_known name.now vars.now }
 {
     vars.iter().any(|v| name == v.name.as_bytes())
 }
 
 /// The first variable that stands twice.
 fn repeated(vars: &[Name]) -> Option<&Name>
-    ensures { option_copied result ≡ first_repeated vars.now }
+    ensures { option_copied result ≡ repeated_variable vars.now }
 {
     match vars {
         [] => None,
@@ -54,7 +55,7 @@ fn repeated(vars: &[Name]) -> Option<&Name>
 
 /// Whether the dimension at a variable's first place is another.
 fn differs(name: &[u8], size: u64, vars: &[Variable]) -> bool
-    ensures { result ≡ other_size name.now size vars.now }
+    ensures { result ≡ differs name.now size vars.now }
 {
     match vars {
         [] => false,
@@ -70,7 +71,7 @@ fn differs(name: &[u8], size: u64, vars: &[Variable]) -> bool
 
 /// The first variable of an access at another dimension than at its first place.
 fn mismatched<'a>(vars: &[Variable], names: &'a [Name], dims: &[u64]) -> Option<&'a Name>
-    ensures { option_copied result ≡ first_mismatched vars.now names.now dims.now }
+    ensures { option_copied result ≡ mismatched vars.now names.now dims.now }
 {
     match names {
         [] => None,
@@ -87,30 +88,40 @@ fn mismatched<'a>(vars: &[Variable], names: &'a [Name], dims: &[u64]) -> Option<
     }
 }
 
-/// The variables with those of one more access.
-fn joined(
+/// Adds a variable, unless it is known.
+fn add_variable(
     alloc: Global,
-    vars: Items<Variable>,
+    vars: &mut Items<Variable>,
+    name: &Name,
+    size: u64,
+) -> Result<(), AllocError>
+    ensures { OnOk result (vars.new ≡ with_variable vars.old name.now size) }
+{
+    if is_known(name.as_bytes(), vars.as_slice()) {
+        return Ok(());
+    }
+    vars.push(Variable {
+        name: Name::from_slice(alloc, name.as_bytes())?,
+        size,
+    })
+}
+
+/// Adds the variables of one more access.
+fn add_variables(
+    alloc: Global,
+    vars: &mut Items<Variable>,
     names: &[Name],
     dims: &[u64],
-) -> Result<Items<Variable>, AllocError>
-    ensures { IfOk result (λ more. more ≡ with_access vars names.now dims.now) }
+) -> Result<(), AllocError>
+    ensures { OnOk result (vars.new ≡ with_variables vars.old names.now dims.now) }
 {
     match names {
-        [] => Ok(vars),
+        [] => Ok(()),
         [name, names @ ..] => match dims {
-            [] => Ok(vars),
+            [] => Ok(()),
             [d, dims @ ..] => {
-                if is_known(name.as_bytes(), vars.as_slice()) {
-                    joined(alloc, vars, names, dims)
-                } else {
-                    let mut vars = vars;
-                    vars.push(Variable {
-                        name: Name::from_slice(alloc, name.as_bytes())?,
-                        size: *d,
-                    })?;
-                    joined(alloc, vars, names, dims)
-                }
+                add_variable(alloc, vars, name, *d)?;
+                add_variables(alloc, vars, names, dims)
             }
         },
     }
@@ -123,7 +134,7 @@ fn access_fault(
     access: &AccessText,
     tensor: &Tensor,
 ) -> Result<Option<ProgramKind>, AllocError>
-    ensures { IfOk result (λ fault. fault ≡ first_fault vars.now access.now tensor.now) }
+    ensures { IfOk result (λ fault. fault ≡ access_fault vars.now access.now tensor.now) }
 {
     let names = access.vars.as_slice();
     let dims = tensor.dims.as_slice();
@@ -142,110 +153,116 @@ fn access_fault(
     Ok(None)
 }
 
-fn bind_access(
-    alloc: Global,
-    line: u32,
-    vars: Items<Variable>,
-    access: &AccessText,
-    tensor: &Tensor,
-) -> Result<Items<Variable>, ProgramFault>
-    ensures { Gives result (bound_access line vars access.now tensor.now) }
-{
-    match access_fault(alloc, vars.as_slice(), access, tensor)? {
-        Some(kind) => Err(ProgramFault::Refused { kind, line }),
-        None => Ok(joined(alloc, vars, access.vars.as_slice(), tensor.dims.as_slice())?),
-    }
+/// What the accesses of a statement are checked against: the declared tensors and the result, with the statement's line.
+#[derive(Clone, Copy)]
+pub(crate) struct Accesses<'a> {
+    pub line: u32,
+    pub tensors: &'a [Tensor],
+    pub result: &'a Tensor,
 }
 
-/// The variables of the left side, where only the result may stand.
-pub(crate) fn bind_left(
-    alloc: Global,
-    line: u32,
-    result_tensor: &Tensor,
-    access: &AccessText,
-) -> Result<Items<Variable>, ProgramFault>
-    ensures { Gives result (bound_left line result_tensor.now access.now) }
-{
-    if access.name.as_bytes() == result_tensor.name.as_bytes() {
-        bind_access(alloc, line, Items::new(alloc), access, result_tensor)
-    } else {
-        let name = Name::from_slice(alloc, access.name.as_bytes())?;
-        Err(ProgramFault::Refused {
-            kind: ProgramKind::UnknownName(name),
-            line,
-        })
+impl Accesses<'_> {
+    fn refused(&self, kind: ProgramKind) -> ProgramFault
+        ensures { result ≡ ProgramFault.Refused kind self.now.line }
+    {
+        ProgramFault::Refused {
+            kind,
+            line: self.line,
+        }
     }
-}
 
-/// The variables with those of an access of the right side, where only declared tensors may stand.
-fn bind_right(
-    alloc: Global,
-    line: u32,
-    tensors: &[Tensor],
-    result_tensor: &Tensor,
-    vars: Items<Variable>,
-    access: &AccessText,
-) -> Result<Items<Variable>, ProgramFault>
-    ensures { Gives result (bound_right line tensors.now result_tensor.now vars access.now) }
-{
-    if access.name.as_bytes() == result_tensor.name.as_bytes() {
-        let name = Name::from_slice(alloc, access.name.as_bytes())?;
-        return Err(ProgramFault::Refused {
-            kind: ProgramKind::ResultOnRight(name),
-            line,
-        });
+    /// Adds the variables of an access of this tensor.
+    fn bind_access(
+        &self,
+        alloc: Global,
+        vars: &mut Items<Variable>,
+        access: &AccessText,
+        tensor: &Tensor,
+    ) -> Result<(), ProgramFault>
+        ensures { LeavesProgram result (λ _. vars.new) (bind_access self.now.line vars.old access.now tensor.now) }
+    {
+        if let Some(kind) = access_fault(alloc, vars.as_slice(), access, tensor)? {
+            return Err(self.refused(kind));
+        }
+        add_variables(alloc, vars, access.vars.as_slice(), tensor.dims.as_slice())?;
+        Ok(())
     }
-    match tensor_named(access.name.as_bytes(), tensors) {
-        Some(tensor) => bind_access(alloc, line, vars, access, tensor),
-        None => {
+
+    /// Adds the variables of the left side, where only the result may stand.
+    pub(crate) fn bind_left(
+        &self,
+        alloc: Global,
+        vars: &mut Items<Variable>,
+        access: &AccessText,
+    ) -> Result<(), ProgramFault>
+        requires { vars.old ≡ [] }
+        ensures { LeavesProgram result (λ _. vars.new) (bind_left self.now.line self.now.result.now access.now) }
+    {
+        if access.name.as_bytes() == self.result.name.as_bytes() {
+            return self.bind_access(alloc, vars, access, self.result);
+        }
+        let name = Name::from_slice(alloc, access.name.as_bytes())?;
+        Err(self.refused(ProgramKind::UnknownName(name)))
+    }
+
+    /// Adds the variables of an access of the right side, where only declared tensors may stand.
+    fn bind_right(
+        &self,
+        alloc: Global,
+        vars: &mut Items<Variable>,
+        access: &AccessText,
+    ) -> Result<(), ProgramFault>
+        ensures { LeavesProgram result (λ _. vars.new)
+            (bind_right self.now.line self.now.tensors.now self.now.result.now vars.old access.now) }
+    {
+        if access.name.as_bytes() == self.result.name.as_bytes() {
             let name = Name::from_slice(alloc, access.name.as_bytes())?;
-            Err(ProgramFault::Refused {
-                kind: ProgramKind::UnknownName(name),
-                line,
-            })
+            return Err(self.refused(ProgramKind::ResultOnRight(name)));
+        }
+        match tensor_named(access.name.as_bytes(), self.tensors) {
+            Some(tensor) => self.bind_access(alloc, vars, access, tensor),
+            None => {
+                let name = Name::from_slice(alloc, access.name.as_bytes())?;
+                Err(self.refused(ProgramKind::UnknownName(name)))
+            }
         }
     }
-}
 
-fn bind_factors(
-    alloc: Global,
-    line: u32,
-    tensors: &[Tensor],
-    result_tensor: &Tensor,
-    vars: Items<Variable>,
-    factors: &[FactorText],
-) -> Result<Items<Variable>, ProgramFault>
-    ensures { Gives result (bound_factors line tensors.now result_tensor.now vars factors.now) }
-{
-    match factors {
-        [] => Ok(vars),
-        [FactorText::Access(access), rest @ ..] => {
-            let vars = bind_right(alloc, line, tensors, result_tensor, vars, access)?;
-            bind_factors(alloc, line, tensors, result_tensor, vars, rest)
-        }
-        [FactorText::Literal(_), rest @ ..] => {
-            bind_factors(alloc, line, tensors, result_tensor, vars, rest)
+    fn bind_factors(
+        &self,
+        alloc: Global,
+        vars: &mut Items<Variable>,
+        factors: &[FactorText],
+    ) -> Result<(), ProgramFault>
+        ensures { LeavesProgram result (λ _. vars.new)
+            (bind_factors self.now.line self.now.tensors.now self.now.result.now vars.old factors.now) }
+    {
+        match factors {
+            [] => Ok(()),
+            [FactorText::Access(access), rest @ ..] => {
+                self.bind_right(alloc, vars, access)?;
+                self.bind_factors(alloc, vars, rest)
+            }
+            [FactorText::Literal(_), rest @ ..] => self.bind_factors(alloc, vars, rest),
         }
     }
-}
 
-/// The variables with those of all terms, in the order of the text.
-pub(crate) fn bind_terms(
-    alloc: Global,
-    line: u32,
-    tensors: &[Tensor],
-    result_tensor: &Tensor,
-    vars: Items<Variable>,
-    terms: &[TermText],
-) -> Result<Items<Variable>, ProgramFault>
-    ensures { Gives result (bound_terms line tensors.now result_tensor.now vars terms.now) }
-{
-    match terms {
-        [] => Ok(vars),
-        [term, rest @ ..] => {
-            let factors = term.factors.as_slice();
-            let vars = bind_factors(alloc, line, tensors, result_tensor, vars, factors)?;
-            bind_terms(alloc, line, tensors, result_tensor, vars, rest)
+    /// Adds the variables of all terms, in the order of the text.
+    pub(crate) fn bind_terms(
+        &self,
+        alloc: Global,
+        vars: &mut Items<Variable>,
+        terms: &[TermText],
+    ) -> Result<(), ProgramFault>
+        ensures { LeavesProgram result (λ _. vars.new)
+            (bind_terms self.now.line self.now.tensors.now self.now.result.now vars.old terms.now) }
+    {
+        match terms {
+            [] => Ok(()),
+            [term, rest @ ..] => {
+                self.bind_factors(alloc, vars, term.factors.as_slice())?;
+                self.bind_terms(alloc, vars, rest)
+            }
         }
     }
 }

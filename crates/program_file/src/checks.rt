@@ -2,9 +2,9 @@
 
 ghost use Rattle.std.specs.Prelude.{◌≡◌, option_copied, IfOk};
 ghost use Rattle.std.specs.List.{list_all, list_any};
-ghost use Rattle.program_file.specs.Accesses.{is_known as among};
-ghost use Rattle.sam_model.specs.Accepted.{is_named as named};
-ghost use Rattle.program_file.specs.Checks.{is_access as access_factor, factor_has as in_factor, term_has as in_term, missing as first_missing, term_fault as fault_in_term, terms_fault as fault_in_terms, are_loops as loops_match, place_of as place, places as all_places, access_discordant as discordant, factors_discordant as discordant_factors, terms_discordant as discordant_terms, count_after as after_in_loops, is_too_deep as too_deep, names_deep as deep_names, factors_deep as deep_factors, terms_deep as deep_terms};
+ghost use Rattle.program_file.specs.Accesses.{is_known};
+ghost use Rattle.sam_model.specs.Accepted.{is_named};
+ghost use Rattle.program_file.specs.Checks.{is_access_text, factor_text_has, term_text_has, missing, term_fault, terms_fault, are_loops, loop_place, places, access_discordant, factors_discordant, terms_discordant, count_after, is_too_deep, names_deep, factors_deep, terms_deep};
 
 use crate::accesses::{Variable, is_known, tensor_named};
 use notation::{AccessText, FactorText, TermText};
@@ -13,7 +13,7 @@ use sam_model::{Tensor, ascending, distinct_names, is_named};
 use std::alloc::{AllocError, Global};
 
 fn is_access(factor: &FactorText) -> bool
-    ensures { result ≡ access_factor factor.now }
+    ensures { result ≡ is_access_text factor.now }
 {
     match factor {
         FactorText::Access(_) => true,
@@ -22,13 +22,13 @@ fn is_access(factor: &FactorText) -> bool
 }
 
 fn has_access(factors: &[FactorText]) -> bool
-    ensures { result ≡ list_any access_factor factors.now }
+    ensures { result ≡ list_any is_access_text factors.now }
 {
     factors.iter().any(|factor| is_access(factor))
 }
 
 fn factor_has(name: &[u8], factor: &FactorText) -> bool
-    ensures { result ≡ in_factor name.now factor.now }
+    ensures { result ≡ factor_text_has name.now factor.now }
 {
     match factor {
         FactorText::Access(access) => is_named(name, access.vars.as_slice()),
@@ -36,9 +36,9 @@ fn factor_has(name: &[u8], factor: &FactorText) -> bool
     }
 }
 
-#[tactic(auto, unfolding(crate::specs::Checks::term_has))]
+#[tactic(auto, unfolding(crate::specs::Checks::term_text_has))]
 fn term_has(term: &TermText, name: &[u8]) -> bool
-    ensures { result ≡ in_term term.now name.now }
+    ensures { result ≡ term_text_has term.now name.now }
 {
     term.factors
         .as_slice()
@@ -48,7 +48,7 @@ fn term_has(term: &TermText, name: &[u8]) -> bool
 
 /// The first variable of the left that a term lacks.
 fn missing<'a>(term: &TermText, left: &'a [Name]) -> Option<&'a Name>
-    ensures { option_copied result ≡ first_missing term.now left.now }
+    ensures { option_copied result ≡ missing term.now left.now }
 {
     match left {
         [] => None,
@@ -67,7 +67,7 @@ fn term_fault(
     left: &[Name],
     term: &TermText,
 ) -> Result<Option<ProgramKind>, AllocError>
-    ensures { IfOk result (λ fault. fault ≡ fault_in_term left.now term.now) }
+    ensures { IfOk result (λ fault. fault ≡ term_fault left.now term.now) }
 {
     if !has_access(term.factors.as_slice()) {
         return Ok(Some(ProgramKind::NoAccess));
@@ -87,7 +87,7 @@ pub(crate) fn terms_fault(
     left: &[Name],
     terms: &[TermText],
 ) -> Result<Option<ProgramKind>, AllocError>
-    ensures { IfOk result (λ fault. fault ≡ fault_in_terms left.now terms.now) }
+    ensures { IfOk result (λ fault. fault ≡ terms_fault left.now terms.now) }
 {
     match terms {
         [] => Ok(None),
@@ -99,20 +99,20 @@ pub(crate) fn terms_fault(
 }
 
 fn all_known(loops: &[Name], vars: &[Variable]) -> bool
-    ensures { result ≡ list_all (λ n. among n vars.now) loops.now }
+    ensures { result ≡ list_all (λ n. is_known n vars.now) loops.now }
 {
     loops.iter().all(|name| is_known(name.as_bytes(), vars))
 }
 
 fn all_named(vars: &[Variable], loops: &[Name]) -> bool
-    ensures { result ≡ list_all (λ v. named v.name loops.now) vars.now }
+    ensures { result ≡ list_all (λ v. is_named v.name loops.now) vars.now }
 {
     vars.iter().all(|v| is_named(v.name.as_bytes(), loops))
 }
 
 /// Whether the loops are the variables, each exactly once.
 pub(crate) fn are_loops(vars: &[Variable], loops: &[Name]) -> bool
-    ensures { result ≡ loops_match vars.now loops.now }
+    ensures { result ≡ are_loops vars.now loops.now }
 {
     loops.len() == vars.len()
         && all_known(loops, vars)
@@ -122,7 +122,7 @@ pub(crate) fn are_loops(vars: &[Variable], loops: &[Name]) -> bool
 
 /// The place of a variable in the loops.
 fn place_of(loops: &[Name], name: &[u8]) -> usize
-    ensures { result ≡ place loops.now name.now }
+    ensures { result ≡ loop_place loops.now name.now }
 {
     loops
         .iter()
@@ -132,7 +132,7 @@ fn place_of(loops: &[Name], name: &[u8]) -> usize
 
 /// The places of these variables in the loops.
 pub(crate) fn places(alloc: Global, loops: &[Name], names: &[Name]) -> Result<Nums, AllocError>
-    ensures { IfOk result (λ found. found ≡ all_places loops.now names.now) }
+    ensures { IfOk result (λ found. found ≡ places loops.now names.now) }
 {
     let mut found = Nums::new(alloc);
     for name in names {
@@ -148,7 +148,7 @@ pub(crate) fn access_discordant(
     access: &AccessText,
     tensor: &Tensor,
 ) -> Result<Option<ProgramKind>, AllocError>
-    ensures { IfOk result (λ fault. fault ≡ discordant loops.now access.now tensor.now) }
+    ensures { IfOk result (λ fault. fault ≡ access_discordant loops.now access.now tensor.now) }
 {
     let found = places(alloc, loops, access.vars.as_slice())?;
     if ascending(found.as_slice(), tensor.order.as_slice()) {
@@ -164,7 +164,7 @@ fn factors_discordant(
     loops: &[Name],
     factors: &[FactorText],
 ) -> Result<Option<ProgramKind>, AllocError>
-    ensures { IfOk result (λ fault. fault ≡ discordant_factors tensors.now loops.now factors.now) }
+    ensures { IfOk result (λ fault. fault ≡ factors_discordant tensors.now loops.now factors.now) }
 {
     match factors {
         [] => Ok(None),
@@ -187,7 +187,7 @@ pub(crate) fn terms_discordant(
     loops: &[Name],
     terms: &[TermText],
 ) -> Result<Option<ProgramKind>, AllocError>
-    ensures { IfOk result (λ fault. fault ≡ discordant_terms tensors.now loops.now terms.now) }
+    ensures { IfOk result (λ fault. fault ≡ terms_discordant tensors.now loops.now terms.now) }
 {
     match terms {
         [] => Ok(None),
@@ -201,7 +201,7 @@ pub(crate) fn terms_discordant(
 }
 
 fn count_after(loops: &[Name], left: &[Name], name: &[u8]) -> usize
-    ensures { result ≡ after_in_loops loops.now left.now name.now }
+    ensures { result ≡ count_after loops.now left.now name.now }
 {
     let here = place_of(loops, name);
     left.iter()
@@ -211,7 +211,7 @@ fn count_after(loops: &[Name], left: &[Name], name: &[u8]) -> usize
 
 #[tactic(auto, unfolding(crate::specs::Checks::is_too_deep))]
 fn is_too_deep(loops: &[Name], left: &[Name], name: &[u8]) -> bool
-    ensures { result ≡ too_deep loops.now left.now name.now }
+    ensures { result ≡ is_too_deep loops.now left.now name.now }
 {
     !is_named(name, left) && 2 < count_after(loops, left, name)
 }
@@ -222,7 +222,7 @@ fn names_deep(
     left: &[Name],
     names: &[Name],
 ) -> Result<Option<ProgramKind>, AllocError>
-    ensures { IfOk result (λ fault. fault ≡ deep_names loops.now left.now names.now) }
+    ensures { IfOk result (λ fault. fault ≡ names_deep loops.now left.now names.now) }
 {
     match names {
         [] => Ok(None),
@@ -243,7 +243,7 @@ fn factors_deep(
     left: &[Name],
     factors: &[FactorText],
 ) -> Result<Option<ProgramKind>, AllocError>
-    ensures { IfOk result (λ fault. fault ≡ deep_factors loops.now left.now factors.now) }
+    ensures { IfOk result (λ fault. fault ≡ factors_deep loops.now left.now factors.now) }
 {
     match factors {
         [] => Ok(None),
@@ -264,7 +264,7 @@ pub(crate) fn terms_deep(
     left: &[Name],
     terms: &[TermText],
 ) -> Result<Option<ProgramKind>, AllocError>
-    ensures { IfOk result (λ fault. fault ≡ deep_terms loops.now left.now terms.now) }
+    ensures { IfOk result (λ fault. fault ≡ terms_deep loops.now left.now terms.now) }
 {
     match terms {
         [] => Ok(None),

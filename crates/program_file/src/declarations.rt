@@ -5,16 +5,15 @@ ghost use Rattle.std.specs.List.{list_all, position_or_len};
 ghost use mathlib.Core.List.{map};
 ghost use Rattle.sam_text.specs.Numbers.{is_decimal};
 ghost use Rattle.sam_text.specs.Words.{words};
-ghost use Rattle.program_file.specs.Declarations.{parts, are_decimals, numbers, capped, is_letter as letter, format_of as letter_format, modes, is_shape, tensor_with, scalar, is_printable as printable, tensor_of as declared_tensor, result_of as declared_result, declared as declaration, all_compressed as compressed_only};
-ghost use Rattle.sam_text.specs.Names.{is_name as name_bytes};
-ghost use Rattle.program_file.specs.Refusals.{Gives};
+ghost use Rattle.program_file.specs.Declarations.{parts, are_decimals, numbers, capped, is_format_letter, format_of, zero_based, is_shape, tensor_with, scalar, is_printable, tensor_of, result_of, declared, all_compressed};
+ghost use Rattle.sam_text.specs.Names.{is_name};
+ghost use Rattle.program_file.specs.Refusals.{GivesProgram};
 
 use crate::faults::ProgramFault;
-use crate::lines::first_word;
 use crate::names::Declared;
 use sam_base::{Items, Name, Nums, ProgramKind, VARIABLES_MOST};
 use sam_model::{Format, Tensor, are_compressed, are_dimensions, is_order};
-use sam_text::{NumFault, is_name, read_u64};
+use sam_text::{NumFault, first_word, is_name, read_u64};
 use std::alloc::{AllocError, Global};
 
 /// How many bytes stand before the first one of this value.
@@ -57,19 +56,19 @@ fn numbers_of(alloc: Global, word: &[u8], byte: u8) -> Result<Option<Nums>, Allo
 }
 
 fn is_letter(byte: u8) -> bool
-    ensures { result ≡ letter byte }
+    ensures { result ≡ is_format_letter byte }
 {
     byte == b'd' || byte == b'c'
 }
 
 fn are_letters(letters: &[u8]) -> bool
-    ensures { result ≡ list_all letter letters.now }
+    ensures { result ≡ list_all is_format_letter letters.now }
 {
     letters.iter().all(|byte| is_letter(*byte))
 }
 
 fn format_of(byte: u8) -> Format
-    ensures { result ≡ letter_format byte }
+    ensures { result ≡ format_of byte }
 {
     if byte == b'd' {
         Format::Dense
@@ -79,7 +78,7 @@ fn format_of(byte: u8) -> Format
 }
 
 fn formats_of(alloc: Global, letters: &[u8]) -> Result<Items<Format>, AllocError>
-    ensures { IfOk result (λ formats. formats ≡ map letter_format letters.now) }
+    ensures { IfOk result (λ formats. formats ≡ map format_of letters.now) }
 {
     let mut formats = Items::new(alloc);
     for byte in letters {
@@ -96,7 +95,7 @@ fn are_positive(numbers: &[u64]) -> bool
 
 /// Modes from 0, where they are written from 1.
 fn modes_of(alloc: Global, numbers: &[u64]) -> Result<Nums, AllocError>
-    ensures { IfOk result (λ order. order ≡ modes numbers.now) }
+    ensures { IfOk result (λ order. order ≡ zero_based numbers.now) }
 {
     let mut order = Nums::new(alloc);
     for number in numbers {
@@ -106,7 +105,7 @@ fn modes_of(alloc: Global, numbers: &[u64]) -> Result<Nums, AllocError>
 }
 
 fn is_printable(word: &[u8]) -> bool
-    ensures { result ≡ list_all printable word.now }
+    ensures { result ≡ list_all is_printable word.now }
 {
     word.iter().all(|byte| 33 <= *byte && *byte <= 126)
 }
@@ -150,7 +149,7 @@ fn shaped(
 
 /// The tensor that the words behind `tensor` declare: a name, dimensions, formats, a storage order and a file.
 pub(crate) fn tensor_of(alloc: Global, line: &[u8]) -> Result<Option<Tensor>, AllocError>
-    ensures { IfOk result (λ found. found ≡ declared_tensor (words line.now)) }
+    ensures { IfOk result (λ found. found ≡ tensor_of (words line.now)) }
 {
     let Some((name, line)) = first_word(line) else {
         return Ok(None);
@@ -175,7 +174,7 @@ pub(crate) fn tensor_of(alloc: Global, line: &[u8]) -> Result<Option<Tensor>, Al
 
 /// The result that the words behind `result` declare: a name, and dimensions, formats and a storage order where it has any.
 pub(crate) fn result_of(alloc: Global, line: &[u8]) -> Result<Option<Tensor>, AllocError>
-    ensures { IfOk result (λ found. found ≡ declared_result (words line.now)) }
+    ensures { IfOk result (λ found. found ≡ result_of (words line.now)) }
 {
     let Some((name, line)) = first_word(line) else {
         return Ok(None);
@@ -197,7 +196,7 @@ pub(crate) fn result_of(alloc: Global, line: &[u8]) -> Result<Option<Tensor>, Al
 
 /// A result without dimensions, if this is a name.
 fn scalar_of(alloc: Global, name: &[u8]) -> Result<Option<Tensor>, AllocError>
-    ensures { IfOk result (λ found. found ≡ (if name_bytes name.now then Some (scalar name.now) else None)) }
+    ensures { IfOk result (λ found. found ≡ (if is_name name.now then Some (scalar name.now) else None)) }
 {
     if !is_name(name) {
         return Ok(None);
@@ -218,7 +217,7 @@ pub(crate) fn declared(
     line: u32,
     found: Option<Tensor>,
 ) -> Result<Tensor, ProgramFault>
-    ensures { Gives result (declaration tensors.now line found) }
+    ensures { GivesProgram result (declared tensors.now line found) }
 {
     let Some(tensor) = found else {
         return Err(ProgramFault::Refused {
@@ -244,7 +243,7 @@ pub(crate) fn declared(
 
 /// A result, unless a level of it is dense.
 pub(crate) fn all_compressed(line: u32, tensor: Tensor) -> Result<Tensor, ProgramFault>
-    ensures { Gives result (compressed_only line tensor) }
+    ensures { GivesProgram result (all_compressed line tensor) }
 {
     if are_compressed(tensor.formats.as_slice()) {
         Ok(tensor)

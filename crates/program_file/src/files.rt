@@ -1,22 +1,23 @@
 //! The reading of a program file, line by line.
 
-ghost use Rattle.std.specs.Prelude.{◌≡◌, ◌≤◌, false, true, length, IfOk, MatchOption};
+ghost use Rattle.std.specs.Prelude.{◌≡◌, ◌≤◌, [], ◌∷◌, false, true, length, IfOk, MatchOption, MatchResult};
 ghost use Rattle.std.specs.List.{list_all};
 ghost use Rattle.sam_text.specs.Words.{words};
-ghost use Rattle.sam_text.specs.Names.{is_name as name_bytes};
-ghost use Rattle.program_file.specs.Cursors.{IsIn, left, past};
-ghost use Rattle.program_file.specs.Files.{starts_again, loop_names, noted, at_end, at_loops, at_statement, at_declarations, result_declared, file_of};
-ghost use Rattle.program_file.specs.Refusals.{Gives};
-ghost use Rattle.notation.specs.Positions.{reading};
+ghost use Rattle.sam_text.specs.Names.{is_name};
+ghost use Rattle.sam_text.specs.Remaining.{lines_left, past_end, text_length, numbered};
+ghost use Rattle.sam_base.specs.declared.TheConstants.{FILE_MOST};
+ghost use Rattle.notation.specs.Positions.{statement_reading};
+ghost use Rattle.program_file.specs.Files.{declarations_in, result_declared, compute_in, noted, loops_in, loop_names, end_in, starts_again, file_reading};
+ghost use Rattle.program_file.specs.Refusals.{GivesProgram, LeavesProgram};
 
 use crate::declarations::{all_compressed, declared, result_of, tensor_of};
 use crate::faults::ProgramFault;
-use crate::lines::{Cursor, behind, first_word, kept_line};
+use crate::keywords::behind;
 use crate::names::Declared;
 use notation::{NoteFault, Statement, read_statement};
 use sam_base::{FILE_MOST, Items, Name, ProgramKind};
 use sam_model::Tensor;
-use sam_text::is_name;
+use sam_text::{Line, Lines, first_word, is_name};
 use std::alloc::{AllocError, Global};
 
 /// A program file as it is written: declarations, a statement and loops, by names.
@@ -41,8 +42,8 @@ fn bad_line(line: u32) -> ProgramFault
 
 /// The names that a line's words are, if each is one.
 fn names_of(alloc: Global, line: &[u8]) -> Result<Option<Items<Name>>, AllocError>
-    ensures { IfOk result (λ found. MatchOption found (list_all name_bytes (words line.now) ≡ false)
-        (λ names. (list_all name_bytes (words line.now) ≡ true) × (names ≡ words line.now))) }
+    ensures { IfOk result (λ found. MatchOption found (list_all is_name (words line.now) ≡ false)
+        (λ names. (list_all is_name (words line.now) ≡ true) × (names ≡ words line.now))) }
 {
     let mut names = Items::new(alloc);
     let mut rest = line;
@@ -56,36 +57,6 @@ fn names_of(alloc: Global, line: &[u8]) -> Result<Option<Items<Name>>, AllocErro
     Ok(Some(names))
 }
 
-/// Whether a line begins a second statement.
-fn begins_again(line: &[u8]) -> bool
-    ensures { result ≡ starts_again (words line.now) }
-{
-    behind(line, b"result").is_some()
-        || behind(line, b"tensor").is_some()
-        || behind(line, b"compute").is_some()
-}
-
-/// The file, where nothing stands behind its loops.
-fn read_end(text: &[u8], from: Cursor, file: File) -> Result<File, ProgramFault>
-    requires { IsIn text.now from }
-    ensures { Gives result (at_end file (left text.now from)) }
-{
-    match kept_line(text, from) {
-        Err(_) => Ok(file),
-        Ok(kept) => {
-            let kind = if begins_again(&text[kept.begin..kept.end]) {
-                ProgramKind::ManyStatements
-            } else {
-                ProgramKind::BadLine
-            };
-            Err(ProgramFault::Refused {
-                kind,
-                line: kept.number,
-            })
-        }
-    }
-}
-
 /// The names behind the word `loops`, if the line has this form.
 fn loops_of(alloc: Global, line: &[u8]) -> Result<Option<Items<Name>>, AllocError>
     ensures { IfOk result (λ found. found ≡ loop_names (words line.now)) }
@@ -96,44 +67,10 @@ fn loops_of(alloc: Global, line: &[u8]) -> Result<Option<Items<Name>>, AllocErro
     }
 }
 
-fn read_loops(
-    alloc: Global,
-    text: &[u8],
-    from: Cursor,
-    tensors: Items<Tensor>,
-    result_tensor: Tensor,
-    statement: Statement,
-    statement_line: u32,
-) -> Result<File, ProgramFault>
-    requires { IsIn text.now from }
-    ensures { Gives result
-        (at_loops (past text.now from) tensors result_tensor statement statement_line (left text.now from)) }
-{
-    let kept = match kept_line(text, from) {
-        Ok(kept) => kept,
-        Err(line) => return Err(bad_line(line)),
-    };
-    match loops_of(alloc, &text[kept.begin..kept.end])? {
-        Some(loops) => read_end(
-            text,
-            kept.rest,
-            File {
-                tensors,
-                result: result_tensor,
-                statement,
-                loops,
-                statement_line,
-                loops_line: kept.number,
-            },
-        ),
-        None => Err(bad_line(kept.number)),
-    }
-}
-
 /// The statement of a text, whose refusal is told at a line.
 fn statement_of(alloc: Global, text: &[u8], line: u32) -> Result<Statement, ProgramFault>
     requires { length text.now ≤ FILE_MOST }
-    ensures { Gives result (noted line (reading text.now)) }
+    ensures { GivesProgram result (noted line (statement_reading text.now)) }
 {
     match read_statement(alloc, text) {
         Ok(statement) => Ok(statement),
@@ -145,44 +82,23 @@ fn statement_of(alloc: Global, text: &[u8], line: u32) -> Result<Statement, Prog
     }
 }
 
-fn read_compute(
-    alloc: Global,
-    text: &[u8],
-    from: Cursor,
-    tensors: Items<Tensor>,
-    result_tensor: Tensor,
-) -> Result<File, ProgramFault>
-    requires { IsIn text.now from }
-    ensures { Gives result (at_statement (past text.now from) tensors result_tensor (left text.now from)) }
+/// Whether a line begins a second statement.
+fn begins_again(line: &[u8]) -> bool
+    ensures { result ≡ starts_again (words line.now) }
 {
-    let kept = match kept_line(text, from) {
-        Ok(kept) => kept,
-        Err(line) => return Err(bad_line(line)),
-    };
-    match behind(&text[kept.begin..kept.end], b"compute") {
-        Some(rest) => {
-            let statement = statement_of(alloc, rest, kept.number)?;
-            read_loops(
-                alloc,
-                text,
-                kept.rest,
-                tensors,
-                result_tensor,
-                statement,
-                kept.number,
-            )
-        }
-        None => Err(bad_line(kept.number)),
-    }
+    behind(line, b"result").is_some()
+        || behind(line, b"tensor").is_some()
+        || behind(line, b"compute").is_some()
 }
 
+/// The result that a line declares, behind these tensors.
 fn read_result(
     alloc: Global,
     tensors: &Declared,
     line: &[u8],
     number: u32,
 ) -> Result<Tensor, ProgramFault>
-    ensures { Gives result (result_declared tensors.now (record { number = number; text = line.now })) }
+    ensures { GivesProgram result (result_declared tensors.now (record { number = number; text = line.now })) }
 {
     let found = match behind(line, b"result") {
         Some(rest) => result_of(alloc, rest)?,
@@ -192,31 +108,115 @@ fn read_result(
     all_compressed(number, tensor)
 }
 
-/// The file that a text spells; or its first fault, line by line.
-pub(crate) fn read_file(alloc: Global, text: &[u8]) -> Result<File, ProgramFault>
-    requires { length text.now ≤ FILE_MOST }
-    ensures { Gives result (file_of text.now) }
-{
-    let mut tensors = Declared::new(alloc);
-    let mut from = Cursor { at: 0, number: 1 };
-    loop {
-        let kept = match kept_line(text, from) {
-            Ok(kept) => kept,
-            Err(line) => return Err(bad_line(line)),
-        };
-        let line = &text[kept.begin..kept.end];
-        match behind(line, b"tensor") {
-            Some(rest) => {
-                let found = tensor_of(alloc, rest)?;
-                let tensor = declared(alloc, &tensors, kept.number, found)?;
-                tensors = tensors.with(alloc, tensor)?;
-                from = kept.rest;
-            }
-            None => {
-                let result_tensor = read_result(alloc, &tensors, line, kept.number)?;
-                let tensors = tensors.into_tensors();
-                return read_compute(alloc, text, kept.rest, tensors, result_tensor);
+/// A reader of the parts of a program file, in their order.
+#[derive(Drop)]
+struct FileReader<'a> {
+    lines: Lines<'a>,
+    ghost short: { text_length lines ≤ FILE_MOST },
+}
+
+impl<'a> FileReader<'a> {
+    /// The next line; where there is none, it is bad.
+    fn line(&mut self) -> Result<Line<'a>, ProgramFault>
+        ensures next { MatchResult result (λ line. lines_left self.old.lines ≡ numbered line ∷ lines_left self.new.lines)
+            (λ fault. (lines_left self.old.lines ≡ []) × (fault ≡ ProgramFault.Refused ProgramKind.BadLine (past_end self.old.lines))) }
+        ensures past { past_end self.new.lines ≡ past_end self.old.lines }
+        ensures short { IfOk result (λ line. length line.text.now ≤ FILE_MOST) }
+    {
+        match self.lines.next() {
+            Ok(line) => Ok(line),
+            Err(past) => Err(bad_line(past)),
+        }
+    }
+
+    /// The tensors that are declared, and the result.
+    fn declarations(&mut self, alloc: Global) -> Result<(Items<Tensor>, Tensor), ProgramFault>
+        ensures found { LeavesProgram result (λ found. (found, lines_left self.new.lines))
+            (declarations_in (past_end self.old.lines) [] (lines_left self.old.lines)) }
+        ensures past { past_end self.new.lines ≡ past_end self.old.lines }
+    {
+        let mut tensors = Declared::new(alloc);
+        loop {
+            let line = self.line()?;
+            match behind(line.text, b"tensor") {
+                Some(rest) => {
+                    let found = tensor_of(alloc, rest)?;
+                    let tensor = declared(alloc, &tensors, line.number, found)?;
+                    tensors = tensors.with(alloc, tensor)?;
+                }
+                None => {
+                    let found = read_result(alloc, &tensors, line.text, line.number)?;
+                    return Ok((tensors.into_tensors(), found));
+                }
             }
         }
     }
+
+    /// The statement, and the number of its line.
+    fn compute(&mut self, alloc: Global) -> Result<(Statement, u32), ProgramFault>
+        ensures found { LeavesProgram result (λ found. (found, lines_left self.new.lines))
+            (compute_in (past_end self.old.lines) (lines_left self.old.lines)) }
+        ensures past { past_end self.new.lines ≡ past_end self.old.lines }
+    {
+        let line = self.line()?;
+        match behind(line.text, b"compute") {
+            Some(rest) => Ok((statement_of(alloc, rest, line.number)?, line.number)),
+            None => Err(bad_line(line.number)),
+        }
+    }
+
+    /// The names of the loops, and the number of their line.
+    fn loops(&mut self, alloc: Global) -> Result<(Items<Name>, u32), ProgramFault>
+        ensures found { LeavesProgram result (λ found. (found, lines_left self.new.lines))
+            (loops_in (past_end self.old.lines) (lines_left self.old.lines)) }
+        ensures past { past_end self.new.lines ≡ past_end self.old.lines }
+    {
+        let line = self.line()?;
+        match loops_of(alloc, line.text)? {
+            Some(names) => Ok((names, line.number)),
+            None => Err(bad_line(line.number)),
+        }
+    }
+
+    /// Nothing stands behind the loops.
+    fn end(&mut self) -> Result<(), ProgramFault>
+        ensures { GivesProgram result (end_in (lines_left self.old.lines)) }
+    {
+        match self.lines.next() {
+            Err(_) => Ok(()),
+            Ok(line) => {
+                let kind = if begins_again(line.text) {
+                    ProgramKind::ManyStatements
+                } else {
+                    ProgramKind::BadLine
+                };
+                Err(ProgramFault::Refused {
+                    kind,
+                    line: line.number,
+                })
+            }
+        }
+    }
+}
+
+/// The file that a text spells; or its first fault, line by line.
+pub(crate) fn read_file(alloc: Global, text: &[u8]) -> Result<File, ProgramFault>
+    requires { length text.now ≤ FILE_MOST }
+    ensures { GivesProgram result (file_reading text.now) }
+{
+    let mut reader = FileReader {
+        lines: Lines::new(text),
+    };
+    let (tensors, result_tensor) = reader.declarations(alloc)?;
+    let (statement, statement_line) = reader.compute(alloc)?;
+    let (loops, loops_line) = reader.loops(alloc)?;
+    reader.end()?;
+    Ok(File {
+        tensors,
+        result: result_tensor,
+        statement,
+        loops,
+        statement_line,
+        loops_line,
+    })
 }

@@ -6,11 +6,9 @@ mod checks;
 mod declarations;
 mod faults;
 mod files;
-mod lines;
+mod keywords;
 mod names;
 mod programs;
-#[cfg(test)]
-mod tests;
 
 pub use faults::ProgramFault;
 pub use programs::read_program;

@@ -1,12 +1,16 @@
 //! The program of a file, and the reading of a text.
 
-ghost use Rattle.std.specs.Prelude.{◌≡◌, ◌≤◌, length, true, IfOk};
+ghost use Rattle.std.specs.Prelude.{◌≡◌, ◌≤◌, length, true, Ok, IfOk};
 ghost use mathlib.Core.List.{map};
-ghost use Rattle.sam_model.specs.Accepted.{accepted as accepts};
-ghost use Rattle.program_file.specs.Programs.{tensor_place, number_of as number, factor_of as numbered_factor, term_of as numbered_term, size_of as first_size, program_of as numbered, order_fault as fault_of_order, loops_checked, statement_checked, bound_of as bound, checked, reading};
-ghost use Rattle.program_file.specs.Refusals.{Gives};
+ghost use Rattle.sam_model.specs.declared.program.Program.{Program as SpecProgram};
+ghost use Rattle.sam_model.specs.Accepted.{accepted};
+ghost use Rattle.program_file.specs.Checks.{places};
+ghost use Rattle.program_file.specs.Programs.{tensor_place, number_of, numbered_factor, numbered_term, size_of, program_of};
+ghost use Rattle.program_file.specs.Programs.{bound_of, order_fault, loops_checked, statement_checked, checked, program_reading};
+ghost use Rattle.program_file.specs.Written.{Writes};
+ghost use Rattle.program_file.specs.Refusals.{GivesProgram};
 
-use crate::accesses::{Variable, bind_left, bind_terms};
+use crate::accesses::{Accesses, Variable};
 use crate::checks::{
     access_discordant, are_loops, places, terms_deep, terms_discordant, terms_fault,
 };
@@ -29,7 +33,7 @@ fn place_of_tensor(tensors: &[Tensor], name: &[u8]) -> usize
 
 /// The number of a tensor, by its name.
 fn number_of(tensors: &[Tensor], name: &[u8]) -> u32
-    ensures { result ≡ number tensors.now name.now }
+    ensures { result ≡ number_of tensors.now name.now }
 {
     let place = place_of_tensor(tensors, name);
     if place < u32::MAX as usize {
@@ -91,7 +95,7 @@ fn terms_of(
 
 /// The dimension at the first place of a variable.
 fn size_of(vars: &[Variable], name: &[u8]) -> u64
-    ensures { result ≡ first_size vars.now name.now }
+    ensures { result ≡ size_of vars.now name.now }
 {
     match vars {
         [] => 0,
@@ -106,7 +110,7 @@ fn size_of(vars: &[Variable], name: &[u8]) -> u64
 }
 
 fn sizes_of(alloc: Global, vars: &[Variable], loops: &[Name]) -> Result<Nums, AllocError>
-    ensures { IfOk result (λ sizes. sizes ≡ map (first_size vars.now) loops.now) }
+    ensures { IfOk result (λ sizes. sizes ≡ map (size_of vars.now) loops.now) }
 {
     let mut sizes = Nums::new(alloc);
     for name in loops {
@@ -115,15 +119,29 @@ fn sizes_of(alloc: Global, vars: &[Variable], loops: &[Name]) -> Result<Nums, Al
     Ok(sizes)
 }
 
-/// The program that a file writes, by numbers.
-fn program_of(alloc: Global, file: File, vars: &[Variable]) -> Result<Program, AllocError>
-    ensures { IfOk result (λ program. program ≡ numbered file vars.now) }
+/// The left side and the terms of a file's statement, by numbers, and the sizes of the variables.
+fn numbered(
+    alloc: Global,
+    file: &File,
+    vars: &[Variable],
+) -> Result<(Nums, Items<Term>, Nums), AllocError>
+    ensures left { IfOk result (λ found. found.0 ≡ places file.now.loops file.now.statement.left.vars) }
+    ensures terms { IfOk result (λ found. found.1 ≡ map (numbered_term file.now.tensors file.now.loops) file.now.statement.terms) }
+    ensures sizes { IfOk result (λ found. found.2 ≡ map (size_of vars.now) file.now.loops) }
 {
     let loops = file.loops.as_slice();
     let tensors = file.tensors.as_slice();
     let left = places(alloc, loops, file.statement.left.vars.as_slice())?;
     let terms = terms_of(alloc, tensors, loops, file.statement.terms.as_slice())?;
-    let var_sizes = sizes_of(alloc, vars, loops)?;
+    let sizes = sizes_of(alloc, vars, loops)?;
+    Ok((left, terms, sizes))
+}
+
+/// The program that a file writes, by numbers.
+fn program_of(alloc: Global, file: File, vars: &[Variable]) -> Result<Program, AllocError>
+    ensures { IfOk result (λ program. program ≡ program_of file vars.now) }
+{
+    let (left, terms, var_sizes) = numbered(alloc, &file, vars)?;
     Ok(Program {
         tensors: file.tensors,
         result: file.result,
@@ -136,24 +154,22 @@ fn program_of(alloc: Global, file: File, vars: &[Variable]) -> Result<Program, A
 
 /// The variables of a file's statement, if each access is right.
 fn bound_of(alloc: Global, file: &File) -> Result<Items<Variable>, ProgramFault>
-    ensures { Gives result (bound file.now) }
+    ensures { GivesProgram result (bound_of file.now) }
 {
-    let line = file.statement_line;
-    let vars = bind_left(alloc, line, &file.result, &file.statement.left)?;
-    let terms = file.statement.terms.as_slice();
-    bind_terms(
-        alloc,
-        line,
-        file.tensors.as_slice(),
-        &file.result,
-        vars,
-        terms,
-    )
+    let accesses = Accesses {
+        line: file.statement_line,
+        tensors: file.tensors.as_slice(),
+        result: &file.result,
+    };
+    let mut vars = Items::new(alloc);
+    accesses.bind_left(alloc, &mut vars, &file.statement.left)?;
+    accesses.bind_terms(alloc, &mut vars, file.statement.terms.as_slice())?;
+    Ok(vars)
 }
 
 /// The first fault of the loops' order.
 fn order_fault(alloc: Global, file: &File) -> Result<Option<ProgramKind>, AllocError>
-    ensures { IfOk result (λ fault. fault ≡ fault_of_order file.now) }
+    ensures { IfOk result (λ fault. fault ≡ order_fault file.now) }
 {
     let loops = file.loops.as_slice();
     let left = &file.statement.left;
@@ -167,8 +183,9 @@ fn order_fault(alloc: Global, file: &File) -> Result<Option<ProgramKind>, AllocE
     terms_deep(alloc, loops, left.vars.as_slice(), terms)
 }
 
-fn check_loops(alloc: Global, file: File, vars: &[Variable]) -> Result<Program, ProgramFault>
-    ensures { Gives result (loops_checked file vars.now) }
+/// The checks of the line with the loops.
+fn check_loops(alloc: Global, file: &File, vars: &[Variable]) -> Result<(), ProgramFault>
+    ensures { GivesProgram result (loops_checked file.now vars.now) }
 {
     let line = file.loops_line;
     if !are_loops(vars, file.loops.as_slice()) {
@@ -177,36 +194,36 @@ fn check_loops(alloc: Global, file: File, vars: &[Variable]) -> Result<Program, 
             line,
         });
     }
-    match order_fault(alloc, &file)? {
+    match order_fault(alloc, file)? {
         Some(kind) => Err(ProgramFault::Refused { kind, line }),
-        None => Ok(program_of(alloc, file, vars)?),
+        None => Ok(()),
     }
 }
 
-fn check_statement(alloc: Global, file: File, vars: &[Variable]) -> Result<Program, ProgramFault>
-    ensures { Gives result (statement_checked file vars.now) }
+/// The checks behind those of the accesses.
+fn check_statement(alloc: Global, file: &File, vars: &[Variable]) -> Result<(), ProgramFault>
+    ensures { GivesProgram result (statement_checked file.now vars.now) }
 {
     let line = file.statement_line;
     let left = file.statement.left.vars.as_slice();
-    match terms_fault(alloc, left, file.statement.terms.as_slice())? {
-        Some(kind) => Err(ProgramFault::Refused { kind, line }),
-        None => {
-            if vars.len() > VARIABLES_MOST {
-                return Err(ProgramFault::Refused {
-                    kind: ProgramKind::TooManyVariables,
-                    line,
-                });
-            }
-            check_loops(alloc, file, vars)
-        }
+    if let Some(kind) = terms_fault(alloc, left, file.statement.terms.as_slice())? {
+        return Err(ProgramFault::Refused { kind, line });
     }
+    if vars.len() > VARIABLES_MOST {
+        return Err(ProgramFault::Refused {
+            kind: ProgramKind::TooManyVariables,
+            line,
+        });
+    }
+    check_loops(alloc, file, vars)
 }
 
 fn check_file(alloc: Global, file: File) -> Result<Program, ProgramFault>
-    ensures { Gives result (checked file) }
+    ensures { GivesProgram result (checked file) }
 {
     let vars = bound_of(alloc, &file)?;
-    check_statement(alloc, file, vars.as_slice())
+    check_statement(alloc, &file, vars.as_slice())?;
+    Ok(program_of(alloc, file, vars.as_slice())?)
 }
 
 /// The program that a text writes: lines that declare tensors and a result, a line with the statement and one with its
@@ -214,9 +231,11 @@ fn check_file(alloc: Global, file: File) -> Result<Program, ProgramFault>
 pub fn read_program(alloc: Global, text: &[u8]) -> Result<Program, ProgramFault>
     requires { length text.now ≤ FILE_MOST }
     // The program is accepted.
-    ensures accepted { IfOk result (λ p. accepts p ≡ true) }
+    ensures accepted { IfOk result (λ p. accepted p ≡ true) }
+    // Each accepted program is read, whatever text of the right form writes it.
+    ensures complete { (p : SpecProgram) → Writes text.now p → accepted p ≡ true → GivesProgram result (Ok p) }
     // It is the one that the text writes, and a refusal is the first fault.
-    ensures exact { Gives result (reading text.now) }
+    ensures exact { GivesProgram result (program_reading text.now) }
 {
     let file = read_file(alloc, text)?;
     check_file(alloc, file)

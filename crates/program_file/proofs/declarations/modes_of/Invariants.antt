@@ -1,6 +1,6 @@
 use Rattle.std.proofs.Common.{◌≡◌, take}
-use Rattle.program_file.specs.Declarations.{modes}
+use Rattle.program_file.specs.Declarations.{zero_based}
 use Rattle.program_file.proofs.declarations.modes_of.Given as goal
 
 abbrev pub invariant-loop-number : goal.invariant-loop-number
-invariant-loop-number l = l.order ≡ modes (take l.number-index l.numbers)
+invariant-loop-number l = l.order ≡ zero_based (take l.number-index l.numbers)
