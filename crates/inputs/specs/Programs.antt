@@ -5,19 +5,19 @@ use Rattle.sam_base.specs.declared.faults.Fault.TheVariants as fault
 use Rattle.sam_base.specs.declared.faults.ProgramKind.TheVariants.{FileTooLong}
 use Rattle.sam_model.specs.declared.program.Program.{Program}
 use Rattle.sam_model.specs.Accepted.{accepted}
-use Rattle.program_file.specs.Refusals.{Refusal}
-use Rattle.program_file.specs.Programs.{reading}
+use Rattle.program_file.specs.Refusals.{ProgramRefusal}
+use Rattle.program_file.specs.Programs.{program_reading}
 use Rattle.parts.specs.Parts.{Part, gives, followed, reads}
 
 -- a program, or the first fault of its file
-abbrev pub with_program_fault : Result Program Refusal → Result Program Fault
+abbrev pub with_program_fault : Result Program ProgramRefusal → Result Program Fault
 with_program_fault (Ok p) = Ok p
 with_program_fault (Err refusal) = Err (fault.Program refusal.kind refusal.line)
 
 -- the program that a file spells; none are the bytes of a file that is too long
 abbrev pub program_in : Option (List ℕ) → Result Program Fault
 program_in None = Err (fault.Program FileTooLong 0)
-program_in (Some bytes) = with_program_fault (reading bytes)
+program_in (Some bytes) = with_program_fault (program_reading bytes)
 
 -- a program that is accepted
 abbrev pub accepts : Program → Part Program
