@@ -1,5 +1,5 @@
 -- The whole streams of the graph of a draft whose blocks give the streams of their labels, and its writers.
-use Rattle.std.specs.Prelude.{◌≡◌, ◌<◌, ◌≤◌, ℕ, zero, suc, Bool, false, List, length, refl}
+use Rattle.std.specs.Prelude.{◌≡◌, ◌<◌, ℕ, Bool, List, length}
 use Rattle.std.specs.List.{All, position_or_len}
 use mathlib.Core.List.{map}
 use Rattle.std.proofs.Common.{arith, sym, ◌∙◌, ap}
@@ -12,15 +12,14 @@ use Rattle.graph.specs.declared.graphs.Kind.{Kind}
 use Rattle.graph.specs.declared.graphs.Block.{Block}
 use Rattle.graph.specs.Wiring.{no_block, block, channel, WellFormed}
 use Rattle.graph.specs.WholeStreams.{whole_stream, whole_inputs, Consistent}
-use Rattle.graph.specs.Writers.{writes_level, writes_values, first_block}
+use Rattle.graph.specs.Writers.{first_block}
 use Rattle.graph.specs.Laws.{Carried}
 use Rattle.graph.proofs.Carried.{carried-whole, carried-inputs, carried-consistent}
 use Rattle.custard_lower.specs.declared.drafts.Made.{Made}
 use Rattle.custard_lower.specs.Drafts.{labels_of}
-use Rattle.custard_lower.specs.Fans.{ending_kind}
-use Rattle.custard_lower.specs.DraftGraph.{no_made, made_at, readers, graph_of}
+use Rattle.custard_lower.specs.DraftGraph.{no_made, made_at, graph_of}
 use Rattle.custard_lower.proofs.draft.Typed.{Typed}
-use Rattle.custard_lower.proofs.draft.GraphPlaces.{block-of-draft, block-of-ending, ending-found, draft-blocks-within}
+use Rattle.custard_lower.proofs.draft.GraphPlaces.{block-of-draft, draft-blocks-within}
 use Rattle.custard_lower.proofs.draft.DraftCarried.{output_stream, channel_stream, draft-inputs, draft-formed, draft-carried}
 
 -- ---- kinds
@@ -29,36 +28,6 @@ module _ (made : List Made) where
   -- a block of the draft keeps its kind
   pub kind-of-draft : (b : ℕ) → b < length made → (block (graph_of made) b).kind ≡ (made_at made b).kind
   kind-of-draft b l = ap (λ (x : Block). x.kind) (block-of-draft made b l)
-
-  -- drains and casts write nothing
-  ending_writes_no_level : (d k : ℕ) → writes_level d (ending_kind k) ≡ false
-  ending_writes_no_level d zero = refl
-  ending_writes_no_level d (suc k) = refl
-
-  ending_writes_no_values : (k : ℕ) → writes_values (ending_kind k) ≡ false
-  ending_writes_no_values zero = refl
-  ending_writes_no_values (suc k) = refl
-
-  kind_of_added : (x : ℕ) → length made ≤ x → x < length (graph_of made).blocks
-      → (k : ℕ) × ((block (graph_of made) x).kind ≡ ending_kind k)
-  kind_of_added x l m =
-      let q = ending-found made x l m in (
-        length (readers made q.output),
-        ap (λ (b : ℕ). (block (graph_of made) b).kind) q.stands
-            ∙ ap (λ (b : Block). b.kind) (block-of-ending made q.output q.output_in q.ended),
-      )
-
-  -- a block that is added writes no level
-  pub added-writes-no-level : (d x : ℕ) → length made ≤ x → x < length (graph_of made).blocks
-      → writes_level d (block (graph_of made) x).kind ≡ false
-  added-writes-no-level d x l m =
-      let k = kind_of_added x l m in ap (writes_level d) k.1 ∙ ending_writes_no_level d k.0
-
-  -- and no values
-  pub added-writes-no-values : (x : ℕ) → length made ≤ x → x < length (graph_of made).blocks
-      → writes_values (block (graph_of made) x).kind ≡ false
-  added-writes-no-values x l m =
-      let k = kind_of_added x l m in ap writes_values k.1 ∙ ending_writes_no_values k.0
 
   -- the first block of the draft that passes a test is the graph's
   pub first-block-of-draft : (test : Kind → Bool) → position_or_len (λ m. test m.kind) made < length made

@@ -69,25 +69,3 @@ module _ (ss : List Summand) (n : ℕ) (later : 0 < n) (inside : n < length ss) 
   pub difference-alone : (summand_at ss n).minus ≡ true
       → Gives (AluKind Minus) (joined_alone ss (n - 1) ∷ term_alone (summand_at ss n).term ∷ []) (joined_alone ss n ∷ [])
   difference-alone m = subst (λ b. Joins (joining b)) m joins
-
--- ---- the first two terms
-
-module _ (ss : List Summand) (two : 1 < length ss) (added : (summand_at ss 0).minus ≡ false) where
-  one_term : joined_alone ss 0 ≡ term_alone (summand_at ss 0).term
-  one_term = sym (first-alone ss (omega (arith, two)) added)
-
-  -- an operation gives the join of the first two terms, of this stream and the second
-  abbrev JoinsTwo : Operation → List Token → Type 0
-  JoinsTwo op left = Gives (AluKind op) (left ∷ term_alone (summand_at ss 1).term ∷ []) (joined_alone ss 1 ∷ [])
-
-  -- the values of the first two terms give theirs together by a sum, where the second is added
-  pub first-sum-alone : (summand_at ss 1).minus ≡ false
-      → Gives (AluKind Plus) (term_alone (summand_at ss 0).term ∷ term_alone (summand_at ss 1).term ∷ [])
-      (joined_alone ss 1 ∷ [])
-  first-sum-alone m = subst (JoinsTwo Plus) one_term (sum-alone ss 1 (omega arith) two m)
-
-  -- and by a difference, where it is taken away
-  pub first-difference-alone : (summand_at ss 1).minus ≡ true
-      → Gives (AluKind Minus) (term_alone (summand_at ss 0).term ∷ term_alone (summand_at ss 1).term ∷ [])
-      (joined_alone ss 1 ∷ [])
-  first-difference-alone m = subst (JoinsTwo Minus) one_term (difference-alone ss 1 (omega arith) two m)

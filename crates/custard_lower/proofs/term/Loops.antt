@@ -1,7 +1,7 @@
 -- The loops of a term, from the innermost outwards: those that have been passed, of which the ones that aren't on the left
 -- are gone, and the levels of the tree that is left.
 use Rattle.std.specs.Prelude.{◌≡◌, ◌<◌, ◌≤◌, ℕ, suc, ◌+◌, true, false, List, [], ◌∷◌, ◌++◌, length, slice_index, refl}
-use Rattle.std.proofs.Common.{arith, sym, ◌∙◌, ap, append_assoc, append-nil, length-append}
+use Rattle.std.proofs.Common.{arith, sym, ◌∙◌, ap, append-nil, length-append}
 use Rattle.std.proofs.lemmas.List.{length-map, get_or-append-add}
 use Rattle.sam_model.specs.Denote.{Loop}
 use Rattle.stream_model.specs.Terms.{TermData}
@@ -19,34 +19,10 @@ pub record Passed (t : TermData) (before after : List Loop) (g : ℕ) : Type 0 w
   pub gone : free_count after ≡ g
   pub few : length t.loops < 9
 
--- at first no loop has been passed
-pub passed-none : (t : TermData) → length t.loops < 9 → Passed t t.loops [] 0
-passed-none t h = record { loops_are = sym (append-nil t.loops); gone = refl; few = h }
-
-inwards : (t : TermData) (before : List Loop) (l : Loop) (after : List Loop) → t.loops ≡ (before ++ l ∷ []) ++ after
-    → t.loops ≡ before ++ l ∷ after
-inwards t before l after e = e ∙ append_assoc before (l ∷ []) after
-
--- where a loop on the left is passed, no more loops are gone
-pub passed-left : (t : TermData) (before : List Loop) (s : ℕ) (after : List Loop) (g : ℕ)
-    → Passed t (before ++ (s, true) ∷ []) after g → Passed t before ((s, true) ∷ after) g
-passed-left t before s after g h =
-    record { loops_are = inwards t before (s, true) after h.loops_are; gone = h.gone; few = h.few }
-
--- a loop that isn't on the left is reduced next
-pub passed-free : (t : TermData) (before : List Loop) (s : ℕ) (after : List Loop) (g : ℕ)
-    → Passed t (before ++ (s, false) ∷ []) after g → Reduces t before s after g
-passed-free t before s after g h =
-    record { loops_are = inwards t before (s, false) after h.loops_are; gone = h.gone; few = h.few }
-
 -- and then it has been passed, and one more is gone
 pub reduced-passed : (t : TermData) (before : List Loop) (s : ℕ) (after : List Loop) (g : ℕ) → Reduces t before s after g
     → Passed t before ((s, false) ∷ after) (suc g)
 reduced-passed t before s after g r = record { loops_are = r.loops_are; gone = ap suc r.gone; few = r.few }
-
--- in the end all loops have been passed, and all that aren't on the left are gone
-pub passed-all : (t : TermData) (after : List Loop) (g : ℕ) → Passed t [] after g → free_count t.loops ≡ g
-passed-all t after g h = ap free_count h.loops_are ∙ h.gone
 
 -- ---- the sizes of the levels
 
@@ -78,10 +54,6 @@ sizes-after t before s after g r = sizes-passed t before ((s, false) ∷ after) 
 pub sizes-whole : (t : TermData) → reduced_sizes t 0 ≡ loop_sizes t.loops
 sizes-whole t = ap kept_sizes (kept-all t.loops) ∙ sizes-kept t.loops [] ∙ append-nil (loop_sizes t.loops)
 
--- where all are gone that aren't on the left, the others are the levels
-pub sizes-left : (t : TermData) → reduced_sizes t (free_count t.loops) ≡ kept_sizes t.loops
-sizes-left t = ap kept_sizes (kept-none (free_count t.loops) t.loops (omega arith))
-
 -- ---- how many levels there are
 
 length_sizes : (loops : List Loop) → length (loop_sizes loops) ≡ length loops
@@ -110,10 +82,6 @@ levels-after t before s after g r = levels-passed t before ((s, false) ∷ after
 -- where no loop is gone, as many as there are loops
 pub levels-whole : (t : TermData) → length (reduced_sizes t 0) ≡ length t.loops
 levels-whole t = ap (λ (xs : List ℕ). length xs) (sizes-whole t) ∙ length_sizes t.loops
-
--- where all are gone that aren't on the left, as many as there are on the left
-pub levels-left : (t : TermData) → length (reduced_sizes t (free_count t.loops)) ≡ length (kept_sizes t.loops)
-levels-left t = ap (λ (xs : List ℕ). length xs) (sizes-left t)
 
 kept_few : (loops : List Loop) → length (kept_sizes loops) ≤ length loops
 kept_few [] = omega arith

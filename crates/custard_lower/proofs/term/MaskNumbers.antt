@@ -1,10 +1,8 @@
 -- The bits of a mask number are the factors that it was made of.
-use Rattle.std.specs.Prelude.{◌≡◌, ◌<◌, ◌≤◌, ℕ, zero, suc, ◌^◌, Bool, false, ◌||◌, List, [], ◌∷◌, ◌++◌, length, get_or, eqb, refl}
+use Rattle.std.specs.Prelude.{◌≡◌, ◌<◌, ℕ, zero, suc, ◌^◌, Bool, false, ◌||◌, List, [], ◌∷◌, ◌++◌, length, get_or, eqb, refl}
 use Rattle.std.specs.Int.Bits.{bit_or}
 use Rattle.std.proofs.Common.{arith, sym, ◌∙◌, ap}
 use Rattle.std.proofs.Math.Bool.{or_assoc}
-use Rattle.std.proofs.Math.Pow.{pow-lt}
-use Rattle.std.proofs.lemmas.Nat.{or_lt}
 use Rattle.sam_model.specs.Lists.{is_in}
 use Rattle.stream_model.specs.Terms.{TermData, access_at}
 use Rattle.stream_model.specs.Labels.{bits}
@@ -65,16 +63,3 @@ mask-final t d fs h e =
     mask-ext (bits n (factors_mask fs)) (final t (suc d)) (length-bits n (factors_mask fs) ∙ sym (length-final t d))
     (λ g l. let i : g < n = omega (arith, l, length-bits n (factors_mask fs)) in
     bit-mask n fs g h ∙ e g i ∙ sym (bit-final t d g i))
-
--- ---- bytes
-
-small_power : (f n : ℕ) → f < n → n ≤ 8 → 2 ^ f < 2 ^ 8
-small_power f n h k = pow-lt {i = f} {j = 8} (omega (arith, h, k))
-
-byte_with : (n mask : ℕ) (fs : List ℕ) → mask < 2 ^ 8 → AllBelow n fs → n ≤ 8 → mask_with mask fs < 2 ^ 8
-byte_with n mask [] h k e = h
-byte_with n mask (f ∷ fs) h k e = byte_with n (bit_or mask (2 ^ f)) fs (or_lt 8 mask (2 ^ f) h (small_power f n k.0 e)) k.1 e
-
--- a mask of at most 8 accesses fits into a byte
-pub mask-byte : (n : ℕ) (fs : List ℕ) → AllBelow n fs → n ≤ 8 → factors_mask fs < 256
-mask-byte n fs h k = byte_with n 0 fs (omega arith) h k
