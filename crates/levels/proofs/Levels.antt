@@ -21,7 +21,7 @@ use Rattle.levels.proofs.Prefixes.{longer, stored-compressed}
 use Rattle.levels.proofs.Ascending.{prefixes-ascend, prefixes-long, number_all}
 use Rattle.levels.proofs.PairLemmas.{has, pairs_by, below-inside, pairs-by-parents}
 use Rattle.levels.proofs.Views.{dense-numbered, compressed-numbered}
-use Rattle.levels.proofs.Steps.{joined, coordinates_under, all_pairs, children-by-places, prefixes-by-places, under-long, dense-under, joined-pairs, has-pair, pairs-sorted, pairs-inside, within-at}
+use Rattle.levels.proofs.Steps.{pair_prefix, coordinates_under, all_pairs, children-by-places, prefixes-by-places, under-long, dense-under, joined-pairs, has-pair, pairs-sorted, pairs-inside, within-at}
 
 -- ---- lists by places
 
@@ -96,13 +96,13 @@ module _ (a : Stored) (order : InOrder a) (k : ℕ) (inside : k < length a.sizes
           flat_map-ext-each (λ r. r < length (stored_prefixes a k)) (λ r. map (λ c. (r, c)) (coordinates_under a k Dense inside at r)) (λ r. map (λ c. (r, c)) (below (slice_index a.sizes k)))
           (λ r h. ap (map (λ c. (r, c))) (dense-under a k inside at r h)) (below (length (stored_prefixes a k))) (below-inside (length (stored_prefixes a k)))
 
-      dense-prefixes : stored_prefixes a (suc k) ≡ map (joined (stored_prefixes a k)) (grid (slice_index a.sizes k) 0 (length (stored_prefixes a k)))
-      dense-prefixes = prefixes-by-places a k Dense inside at ∙ ap (map (joined (stored_prefixes a k))) dense-pairs
+      dense-prefixes : stored_prefixes a (suc k) ≡ map (pair_prefix (stored_prefixes a k)) (grid (slice_index a.sizes k) 0 (length (stored_prefixes a k)))
+      dense-prefixes = prefixes-by-places a k Dense inside at ∙ ap (map (pair_prefix (stored_prefixes a k))) dense-pairs
 
       pub dense-count : count * slice_index a.sizes k ≡ length (stored_prefixes a (suc k))
       dense-count =
           ap (λ n. n * slice_index a.sizes k) placed.counted
-          ∙ sym (ap length dense-prefixes ∙ length-map (grid (slice_index a.sizes k) 0 (length (stored_prefixes a k))) (joined (stored_prefixes a k))
+          ∙ sym (ap length dense-prefixes ∙ length-map (grid (slice_index a.sizes k) 0 (length (stored_prefixes a k))) (pair_prefix (stored_prefixes a k))
           ∙ grid-length (slice_index a.sizes k) 0 (length (stored_prefixes a k)))
 
       pub dense-children-of : dense_children (slice_index a.sizes k) count ≡ children_of a (suc k)
@@ -121,7 +121,7 @@ module _ (a : Stored) (order : InOrder a) (k : ℕ) (inside : k < length a.sizes
             (λ x h. rank-below x.0 x.1 h.0 h.1) (pairs_at ranks k a.entries) level-pairs-inside);
         placed =
             map-map (list_at (stored_prefixes a (suc k))) (λ x. x.0 * slice_index a.sizes k + x.1) (pairs_at ranks k a.entries)
-            ∙ map-ext-each (λ x. (x.0 < count) × (x.1 < slice_index a.sizes k)) (λ x. list_at (stored_prefixes a (suc k)) (x.0 * slice_index a.sizes k + x.1)) (joined (stored_prefixes a k))
+            ∙ map-ext-each (λ x. (x.0 < count) × (x.1 < slice_index a.sizes k)) (λ x. list_at (stored_prefixes a (suc k)) (x.0 * slice_index a.sizes k + x.1)) (pair_prefix (stored_prefixes a k))
             (λ x h. at-pair x.0 x.1 h.0 h.1) (pairs_at ranks k a.entries) level-pairs-inside
             ∙ joined-pairs (stored_prefixes a k) k ranks a.entries placed.placed entries-long;
       }
@@ -129,14 +129,14 @@ module _ (a : Stored) (order : InOrder a) (k : ℕ) (inside : k < length a.sizes
           rank-below : (r c : ℕ) → r < count → c < slice_index a.sizes k → r * slice_index a.sizes k + c < count * slice_index a.sizes k
           rank-below r c h l = rw (mul_comm count (slice_index a.sizes k)) (mul-add-lt r (slice_index a.sizes k) c count h l)
 
-          at-pair : (r c : ℕ) → r < count → c < slice_index a.sizes k → list_at (stored_prefixes a (suc k)) (r * slice_index a.sizes k + c) ≡ joined (stored_prefixes a k) (r, c)
+          at-pair : (r c : ℕ) → r < count → c < slice_index a.sizes k → list_at (stored_prefixes a (suc k)) (r * slice_index a.sizes k + c) ≡ pair_prefix (stored_prefixes a k) (r, c)
           at-pair r c h l =
               let n : count ≡ length (stored_prefixes a k) = placed.counted in
               let small : r * slice_index a.sizes k + c < length (grid (slice_index a.sizes k) 0 (length (stored_prefixes a k)))
               = rw (grid-length (slice_index a.sizes k) 0 (length (stored_prefixes a k)), ← n) (rank-below r c h l) in
               ap (λ ps. list_at ps (r * slice_index a.sizes k + c)) dense-prefixes
-              ∙ list_at-map (joined (stored_prefixes a k)) (grid (slice_index a.sizes k) 0 (length (stored_prefixes a k))) (r * slice_index a.sizes k + c) small
-              ∙ ap (joined (stored_prefixes a k)) (grid-at (slice_index a.sizes k) 0 (length (stored_prefixes a k)) r c (omega arith) l ∙ ap (λ m. (m, c)) (zero-add r))
+              ∙ list_at-map (pair_prefix (stored_prefixes a k)) (grid (slice_index a.sizes k) 0 (length (stored_prefixes a k))) (r * slice_index a.sizes k + c) small
+              ∙ ap (pair_prefix (stored_prefixes a k)) (grid-at (slice_index a.sizes k) 0 (length (stored_prefixes a k)) r c (omega arith) l ∙ ap (λ m. (m, c)) (zero-add r))
 
     -- ---- a compressed level
 
@@ -158,11 +158,11 @@ module _ (a : Stored) (order : InOrder a) (k : ℕ) (inside : k < length a.sizes
           (λ r. map (λ c. (r, c)) (coordinates_under a k Compressed inside at r))
           (λ r h. ap (map (λ c. (r, c))) (sym (compressed-under r h))) (below (length (stored_prefixes a k))) (below-inside (length (stored_prefixes a k)))
 
-      compressed-prefixes : stored_prefixes a (suc k) ≡ map (joined (stored_prefixes a k)) (with_pairs [] (pairs_at ranks k a.entries))
-      compressed-prefixes = prefixes-by-places a k Compressed inside at ∙ ap (map (joined (stored_prefixes a k))) (sym compressed-pairs)
+      compressed-prefixes : stored_prefixes a (suc k) ≡ map (pair_prefix (stored_prefixes a k)) (with_pairs [] (pairs_at ranks k a.entries))
+      compressed-prefixes = prefixes-by-places a k Compressed inside at ∙ ap (map (pair_prefix (stored_prefixes a k))) (sym compressed-pairs)
 
       pub compressed-count : length (with_pairs [] (pairs_at ranks k a.entries)) ≡ length (stored_prefixes a (suc k))
-      compressed-count = sym (ap length compressed-prefixes ∙ length-map (with_pairs [] (pairs_at ranks k a.entries)) (joined (stored_prefixes a k)))
+      compressed-count = sym (ap length compressed-prefixes ∙ length-map (with_pairs [] (pairs_at ranks k a.entries)) (pair_prefix (stored_prefixes a k)))
 
       pub compressed-children-of : fibers (map (before (with_pairs [] (pairs_at ranks k a.entries))) (below (count + 1))) (map (λ (x : ℕ × ℕ). x.1) (with_pairs [] (pairs_at ranks k a.entries))) ≡ children_of a (suc k)
       compressed-children-of =
@@ -177,10 +177,10 @@ module _ (a : Stored) (order : InOrder a) (k : ℕ) (inside : k < length a.sizes
         counted = compressed-count;
         ranked = below-all;
         placed =
-            map-ext-each (λ r. r < length (with_pairs [] (pairs_at ranks k a.entries))) (list_at (stored_prefixes a (suc k))) (λ r. joined (stored_prefixes a k) (slice_index_or (with_pairs [] (pairs_at ranks k a.entries)) r (0, 0)))
-            (λ r h. ap (λ ps. list_at ps r) compressed-prefixes ∙ list_at-map (joined (stored_prefixes a k)) (with_pairs [] (pairs_at ranks k a.entries)) r h) next below-all
-            ∙ sym (map-map (joined (stored_prefixes a k)) (λ r. slice_index_or (with_pairs [] (pairs_at ranks k a.entries)) r (0, 0)) next)
-            ∙ ap (map (joined (stored_prefixes a k))) there
+            map-ext-each (λ r. r < length (with_pairs [] (pairs_at ranks k a.entries))) (list_at (stored_prefixes a (suc k))) (λ r. pair_prefix (stored_prefixes a k) (slice_index_or (with_pairs [] (pairs_at ranks k a.entries)) r (0, 0)))
+            (λ r h. ap (λ ps. list_at ps r) compressed-prefixes ∙ list_at-map (pair_prefix (stored_prefixes a k)) (with_pairs [] (pairs_at ranks k a.entries)) r h) next below-all
+            ∙ sym (map-map (pair_prefix (stored_prefixes a k)) (λ r. slice_index_or (with_pairs [] (pairs_at ranks k a.entries)) r (0, 0)) next)
+            ∙ ap (map (pair_prefix (stored_prefixes a k))) there
             ∙ joined-pairs (stored_prefixes a k) k ranks a.entries placed.placed entries-long;
       }
 

@@ -3,7 +3,7 @@ use Rattle.std.proofs.Common.{◌≡◌, ℕ, zero, suc, ◌<◌, List, [], ◌�
 use Rattle.std.specs.Prelude.{slice_index}
 use mathlib.Core.List.{map}
 use Rattle.levels.specs.declared.rows.Row.{Row}
-use Rattle.levels.specs.Rows.{entry_of, row_pairs, ranked_values}
+use Rattle.levels.specs.Rows.{row_entry, row_pairs, ranked_values}
 use Rattle.levels.specs.Placed.{pairs_at}
 
 pub length-row_pairs : (parents : List ℕ) (place : ℕ) (rows : List Row) → length parents ≡ length rows → length (row_pairs parents place rows) ≡ length rows
@@ -39,7 +39,7 @@ front-at (suc n) zero (x ∷ xs) h = refl
 front-at (suc n) (suc k) (x ∷ xs) h = front-at n k xs (omega arith)
 
 -- the pairs of rows are those of their entries
-pub row_pairs-entries : (parents : List ℕ) (place n : ℕ) (rows : List Row) → place < n → row_pairs parents place rows ≡ pairs_at parents place (map (entry_of n) rows)
+pub row_pairs-entries : (parents : List ℕ) (place n : ℕ) (rows : List Row) → place < n → row_pairs parents place rows ≡ pairs_at parents place (map (row_entry n) rows)
 row_pairs-entries [] place n rows h = refl
 row_pairs-entries (p ∷ parents) place n [] h = refl
 row_pairs-entries (p ∷ parents) place n (row ∷ rows) h =

@@ -15,7 +15,7 @@ use Rattle.levels.specs.declared.rows.Row.{Row}
 use Rattle.sam_base.specs.Each.{Each}
 use Rattle.sam_model.proofs.Lists.{Each-mapped, Each-weaker, filter-ext}
 use Rattle.levels.specs.Sorted.{Sorted}
-use Rattle.levels.specs.Rows.{entry_of}
+use Rattle.levels.specs.Rows.{row_entry}
 use Rattle.levels.proofs.Growth.{Each-get}
 use Rattle.levels.proofs.EntryLemmas.{Each-from-places}
 
@@ -64,9 +64,9 @@ Sorted-map : {A B : Type 0} (R : A → A → Type 0) (S : B → B → Type 0) (f
 Sorted-map R S f e [] h = tt
 Sorted-map R S f e (x ∷ xs) h = (Each-mapped (S (f x)) f xs (Each-weaker (R x) (λ y. S (f x) (f y)) (λ y r. e x y r) xs h.0), Sorted-map R S f e xs h.1)
 
-pub sorted-entries : (n : ℕ) (rows : List Row) → IsSortedByKey (λ (row : Row). row.coordinates) (slice_cmp nat_cmp) rows → Sorted (λ x y. smaller y.0 x.0 ≡ false) (map (entry_of n) rows)
+pub sorted-entries : (n : ℕ) (rows : List Row) → IsSortedByKey (λ (row : Row). row.coordinates) (slice_cmp nat_cmp) rows → Sorted (λ x y. smaller y.0 x.0 ≡ false) (map (row_entry n) rows)
 sorted-entries n rows up =
-    Sorted-map (λ (x y : Row). is_lt (slice_cmp nat_cmp y.coordinates x.coordinates) ≡ false) (λ x y. smaller y.0 x.0 ≡ false) (entry_of n)
+    Sorted-map (λ (x y : Row). is_lt (slice_cmp nat_cmp y.coordinates x.coordinates) ≡ false) (λ x y. smaller y.0 x.0 ≡ false) (row_entry n)
     (λ x y h. not-smaller n y.coordinates x.coordinates (sym (cmp-smaller y.coordinates x.coordinates) ∙ h)) rows
     (Sorted-from-places (λ (x y : Row). is_lt (slice_cmp nat_cmp y.coordinates x.coordinates) ≡ false) record { coordinates = []; value = 0 } rows
     (λ i j l m. sorted_far (λ (x y : Row). is_lt (slice_cmp nat_cmp x.coordinates y.coordinates)) (ranks_by (lists_total nat_cmp_total) (λ (row : Row). row.coordinates)) rows up i j record { coordinates = []; value = 0 } (omega arith) m))

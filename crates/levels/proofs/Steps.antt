@@ -21,8 +21,8 @@ use Rattle.levels.proofs.Ascending.{Ascending, ascending-at, same-place, prefixe
 use Rattle.levels.proofs.PairLemmas.{has, pairs_by}
 
 -- the prefix that a pair stands for
-abbrev pub joined : List (List ℕ) → ℕ × ℕ → List ℕ
-joined ps x = longer (list_at ps x.0) x.1
+abbrev pub pair_prefix : List (List ℕ) → ℕ × ℕ → List ℕ
+pair_prefix ps x = longer (list_at ps x.0) x.1
 
 -- ---- a list by its places
 
@@ -64,15 +64,15 @@ module _ (a : Stored) (k : ℕ) (f : Format) (inside : k < length a.sizes) (at :
       children-numbered a k f inside at
       ∙ ap (number_all 0) (ap (map (next_coordinates a)) (sym (by-places (stored_prefixes a k))) ∙ map-map (next_coordinates a) (list_at (stored_prefixes a k)) (below (length (stored_prefixes a k))))
 
-  pub prefixes-by-places : stored_prefixes a (suc k) ≡ map (joined (stored_prefixes a k)) all_pairs
+  pub prefixes-by-places : stored_prefixes a (suc k) ≡ map (pair_prefix (stored_prefixes a k)) all_pairs
   prefixes-by-places =
       prefixes-more a k inside
       ∙ ap (flat_map (next_prefixes a)) (sym (by-places (stored_prefixes a k)))
       ∙ flat_map-map (next_prefixes a) (list_at (stored_prefixes a k)) (below (length (stored_prefixes a k)))
-      ∙ flat_map-ext-each (λ (r : ℕ). Unit {0}) (λ r. next_prefixes a (list_at (stored_prefixes a k) r)) (λ r. map (joined (stored_prefixes a k)) (map (λ c. (r, c)) (coordinates_under r)))
-      (λ r _. sym (map-map (joined (stored_prefixes a k)) (λ c. (r, c)) (coordinates_under r))) (below (length (stored_prefixes a k)))
+      ∙ flat_map-ext-each (λ (r : ℕ). Unit {0}) (λ r. next_prefixes a (list_at (stored_prefixes a k) r)) (λ r. map (pair_prefix (stored_prefixes a k)) (map (λ c. (r, c)) (coordinates_under r)))
+      (λ r _. sym (map-map (pair_prefix (stored_prefixes a k)) (λ c. (r, c)) (coordinates_under r))) (below (length (stored_prefixes a k)))
       (Each-always (λ (r : ℕ). Unit {0}) (λ r. tt) (below (length (stored_prefixes a k))))
-      ∙ sym (map-flat_map (joined (stored_prefixes a k)) (λ r. map (λ c. (r, c)) (coordinates_under r)) (below (length (stored_prefixes a k))))
+      ∙ sym (map-flat_map (pair_prefix (stored_prefixes a k)) (λ r. map (λ c. (r, c)) (coordinates_under r)) (below (length (stored_prefixes a k))))
 
   pub under-long : (r : ℕ) → r < length (stored_prefixes a k) → length (list_at (stored_prefixes a k) r) ≡ k
   under-long r h = Each-at (λ p. length p ≡ k) (stored_prefixes a k) (prefixes-long a k (omega arith)) r h
@@ -100,7 +100,7 @@ module _ (ps : List (List ℕ)) (k : ℕ) where
   front-longer (x ∷ xs) (suc k) h = ap (λ t. x ∷ t) (front-longer xs k (omega arith))
 
   pub joined-pairs : (ranks : List ℕ) (entries : List (List ℕ × ℕ)) → map (list_at ps) ranks ≡ map (λ entry. take k entry.0) entries → Each (λ entry. k < length entry.0) entries
-      → map (joined ps) (pairs_at ranks k entries) ≡ map (λ entry. take (suc k) entry.0) entries
+      → map (pair_prefix ps) (pairs_at ranks k entries) ≡ map (λ entry. take (suc k) entry.0) entries
   joined-pairs [] [] e h = refl
   joined-pairs [] (entry ∷ entries) e h = cc
   joined-pairs (r ∷ ranks) [] e h = cc

@@ -13,7 +13,7 @@ use Rattle.levels.specs.declared.rows.Row.{Row}
 use Rattle.sam_base.specs.Each.{Each}
 use Rattle.sam_model.proofs.Lists.{map-ext-each, Each-weaker}
 use Rattle.levels.specs.Placed.{list_at, Placed}
-use Rattle.levels.specs.Rows.{entry_of, sum_at, ranked_values}
+use Rattle.levels.specs.Rows.{row_entry, sum_at, ranked_values}
 use Rattle.levels.proofs.Orders.{eqb-same}
 use Rattle.levels.proofs.Ascending.{Ascending, prefixes-ascend, same-place}
 use Rattle.levels.proofs.PairLemmas.{below-inside}
@@ -118,5 +118,5 @@ values-are a n count ranks levels long placed =
     ∙ ap (map (value_at a)) (by-places (stored_prefixes a n))
     ∙ ap (λ k. map (value_at a) (stored_prefixes a k)) (sym levels)
 
-pub ranked_values-entries : (ranks : List ℕ) (n : ℕ) (rows : List Row) → ranked_values ranks rows ≡ zip ranks (map (λ entry. entry.1) (map (entry_of n) rows))
-ranked_values-entries ranks n rows = ap (zip ranks) (sym (map-map (λ (entry : List ℕ × ℕ). entry.1) (entry_of n) rows))
+pub ranked_values-entries : (ranks : List ℕ) (n : ℕ) (rows : List Row) → ranked_values ranks rows ≡ zip ranks (map (λ entry. entry.1) (map (row_entry n) rows))
+ranked_values-entries ranks n rows = ap (zip ranks) (sym (map-map (λ (entry : List ℕ × ℕ). entry.1) (row_entry n) rows))

@@ -8,15 +8,15 @@ use Rattle.sam_model.specs.Tensors.{Stored}
 use Rattle.levels.specs.declared.rows.Row.{Row}
 
 -- a row as an entry of a tensor with n levels
-abbrev pub entry_of : ℕ → Row → List ℕ × ℕ
-entry_of n row = (take n row.coordinates, row.value)
+abbrev pub row_entry : ℕ → Row → List ℕ × ℕ
+row_entry n row = (take n row.coordinates, row.value)
 
 -- the tensor whose entries are these rows
 abbrev pub of_rows : Tensor → List Row → Stored
 of_rows t rows = record {
   formats = t.formats;
   sizes = items_at t.dims t.order;
-  entries = map (entry_of (length t.order)) rows;
+  entries = map (row_entry (length t.order)) rows;
 }
 
 -- the pairs of parent and coordinate that rows with these parents have at a place

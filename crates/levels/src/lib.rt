@@ -11,8 +11,6 @@ mod pairs;
 mod positions;
 mod rows;
 mod storage;
-#[cfg(test)]
-mod tests;
 
 pub use faults::BuildFault;
 pub use storage::Storage;

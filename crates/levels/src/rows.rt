@@ -5,7 +5,7 @@ ghost use Rattle.std.specs.List.Sorted.{IsPermutation};
 ghost use Rattle.sam_model.specs.Tensors.{stored_as};
 ghost use Rattle.levels.specs.Matches.{IsStorable, Matches};
 ghost use Rattle.levels.specs.Placed.{InOrder};
-ghost use Rattle.levels.specs.Rows.{entry_of, of_rows};
+ghost use Rattle.levels.specs.Rows.{row_entry, of_rows};
 
 use sam_base::VARIABLES_MOST;
 use sam_model::{Entries, Tensor};
@@ -23,7 +23,7 @@ fn row_at(entries: &Entries, t: &Tensor, n: usize) -> Row
     requires storable { IsStorable t.now }
     requires matches { Matches t.now entries.now }
     requires there { n < length entries.now.values }
-    ensures { entry_of (length t.now.order) result ≡ slice_index_or (stored_as t.now entries.now).entries n ([], 0) }
+    ensures { row_entry (length t.now.order) result ≡ slice_index_or (stored_as t.now entries.now).entries n ([], 0) }
 {
     let coords = entries.coords.as_slice();
     let from = n * entries.arity as usize;

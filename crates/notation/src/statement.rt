@@ -4,7 +4,7 @@ ghost use Rattle.std.specs.Prelude.{◌≡◌};
 ghost use Rattle.notation.specs.declared.statement.NoteFault.TheVariants.{OutOfMemory};
 
 use sam_base::{Items, Name, NoteKind};
-use std::alloc::{AllocError, AllocFailed};
+use std::alloc::AllocError;
 use thiserror::Error;
 
 /// A tensor's name with its variables in parentheses, or alone. The place is that of its first byte in the text.
@@ -49,14 +49,6 @@ impl From<AllocError> for NoteFault {
     ghost from_gives = { λ _ e. e ≡ OutOfMemory };
 
     fn from(_e: AllocError) -> NoteFault {
-        NoteFault::OutOfMemory
-    }
-}
-
-impl<T: Drop> From<AllocFailed<T>> for NoteFault {
-    ghost from_gives = { λ _ e. e ≡ OutOfMemory };
-
-    fn from(_e: AllocFailed<T>) -> NoteFault {
         NoteFault::OutOfMemory
     }
 }

@@ -4,7 +4,7 @@ ghost use Rattle.std.specs.Prelude.{◌≡◌};
 ghost use Rattle.program_file.specs.declared.faults.ProgramFault.TheVariants.{OutOfMemory};
 
 use sam_base::ProgramKind;
-use std::alloc::{AllocError, AllocFailed};
+use std::alloc::AllocError;
 use thiserror::Error;
 
 /// Why a text gives no program. The line is that of the first fault, counted from 1.
@@ -20,14 +20,6 @@ impl From<AllocError> for ProgramFault {
     ghost from_gives = { λ _ e. e ≡ OutOfMemory };
 
     fn from(_e: AllocError) -> ProgramFault {
-        ProgramFault::OutOfMemory
-    }
-}
-
-impl<T: Drop> From<AllocFailed<T>> for ProgramFault {
-    ghost from_gives = { λ _ e. e ≡ OutOfMemory };
-
-    fn from(_e: AllocFailed<T>) -> ProgramFault {
         ProgramFault::OutOfMemory
     }
 }

@@ -20,8 +20,8 @@ status_of WriteFault = 7
 status_of OutOfMemory = 9
 
 -- a line of text
-abbrev pub line_of : List ℕ → List ℕ
-line_of text = text ++ 10 ∷ []
+abbrev pub text_line : List ℕ → List ℕ
+text_line text = text ++ 10 ∷ []
 
 -- why a block waits on a channel
 abbrev pub state_of : Bool → List ℕ
@@ -29,7 +29,7 @@ state_of full = if full then codes " full channel " else codes " empty channel "
 
 -- one waiting block
 abbrev pub waiting_of : Waiting → List ℕ
-waiting_of w = codes "sam: stalled: block " ++ decimal w.block ++ line_of (state_of w.full ++ decimal w.channel)
+waiting_of w = codes "sam: stalled: block " ++ decimal w.block ++ text_line (state_of w.full ++ decimal w.channel)
 
 -- the waiting blocks, a line each
 abbrev pub stalled_of : List Waiting → List ℕ
@@ -38,15 +38,15 @@ stalled_of (w ∷ ws) = waiting_of w ++ stalled_of ws
 
 -- what is said of a fault
 abbrev pub text_of : Fault → List ℕ
-text_of Usage = line_of (codes "sam: usage: sam COMMAND SUBJECT [--capacity N] [--of C=N,..] [--schedule FILE]")
-text_of (Missing name) = line_of (codes "sam: missing " ++ name)
-text_of (ReadFault name) = line_of (codes "sam: read fault " ++ name)
-text_of (Program kind line) = line_of (codes "sam: program line " ++ decimal line ++ codes ": " ++ program_kind kind)
-text_of (Schedule line) = line_of (codes "sam: schedule line " ++ decimal line)
-text_of (TooManyBlocks blocks) = line_of (codes "sam: " ++ decimal blocks ++ codes " blocks")
-text_of (NoSuchChannel channel) = line_of (codes "sam: no channel " ++ decimal channel)
+text_of Usage = text_line (codes "sam: usage: sam COMMAND SUBJECT [--capacity N] [--of C=N,..] [--schedule FILE]")
+text_of (Missing name) = text_line (codes "sam: missing " ++ name)
+text_of (ReadFault name) = text_line (codes "sam: read fault " ++ name)
+text_of (Program kind line) = text_line (codes "sam: program line " ++ decimal line ++ codes ": " ++ program_kind kind)
+text_of (Schedule line) = text_line (codes "sam: schedule line " ++ decimal line)
+text_of (TooManyBlocks blocks) = text_line (codes "sam: " ++ decimal blocks ++ codes " blocks")
+text_of (NoSuchChannel channel) = text_line (codes "sam: no channel " ++ decimal channel)
 text_of (Tensor name kind line) =
-    line_of (codes "sam: " ++ name ++ codes " line " ++ decimal line ++ codes ": " ++ tns_kind kind)
+    text_line (codes "sam: " ++ name ++ codes " line " ++ decimal line ++ codes ": " ++ tns_kind kind)
 text_of (Stalled blocks) = stalled_of blocks
-text_of WriteFault = line_of (codes "sam: write fault")
-text_of OutOfMemory = line_of (codes "sam: out of memory")
+text_of WriteFault = text_line (codes "sam: write fault")
+text_of OutOfMemory = text_line (codes "sam: out of memory")

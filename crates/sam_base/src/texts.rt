@@ -2,7 +2,7 @@
 
 ghost use Rattle.std.specs.Prelude.{◌≡◌, ◌++◌, codes, decimal, IfOk, OnOk, OnErr};
 ghost use Rattle.sam_base.specs.Kinds.{note_kind, program_kind, tns_kind};
-ghost use Rattle.sam_base.specs.Texts.{line_of, stalled_of, state_of, text_of, waiting_of};
+ghost use Rattle.sam_base.specs.Texts.{text_line, stalled_of, state_of, text_of, waiting_of};
 
 use crate::faults::{Fault, NoteKind, ProgramKind, TnsKind, Waiting};
 use crate::lists::Name;
@@ -109,7 +109,7 @@ fn program_text(text: &mut Name, kind: &ProgramKind) -> Result<(), AllocError>
 
 /// A line of a head and a name.
 fn name_line(alloc: Global, head: &str, name: &Name) -> Result<Name, AllocError>
-    ensures { IfOk result (λ text. text ≡ line_of (head.now ++ name.now)) }
+    ensures { IfOk result (λ text. text ≡ text_line (head.now ++ name.now)) }
 {
     let mut text = Name::from_slice(alloc, head.as_bytes())?;
     text.append(name.as_bytes())?;
@@ -119,7 +119,7 @@ fn name_line(alloc: Global, head: &str, name: &Name) -> Result<Name, AllocError>
 
 /// A line of a head, a number and a tail.
 fn number_line(alloc: Global, head: &str, n: u32, tail: &str) -> Result<Name, AllocError>
-    ensures { IfOk result (λ text. text ≡ line_of (head.now ++ decimal n ++ tail.now)) }
+    ensures { IfOk result (λ text. text ≡ text_line (head.now ++ decimal n ++ tail.now)) }
 {
     let mut text = Name::from_slice(alloc, head.as_bytes())?;
     number(&mut text, n)?;
@@ -130,7 +130,7 @@ fn number_line(alloc: Global, head: &str, n: u32, tail: &str) -> Result<Name, Al
 
 fn program_line(alloc: Global, kind: &ProgramKind, line: u32) -> Result<Name, AllocError>
     ensures { IfOk result
-        (λ text. text ≡ line_of (codes "sam: program line " ++ decimal line ++ codes ": " ++ program_kind kind.now)) }
+        (λ text. text ≡ text_line (codes "sam: program line " ++ decimal line ++ codes ": " ++ program_kind kind.now)) }
 {
     let mut text = Name::from_slice(alloc, b"sam: program line ")?;
     number(&mut text, line)?;
@@ -142,7 +142,7 @@ fn program_line(alloc: Global, kind: &ProgramKind, line: u32) -> Result<Name, Al
 
 fn tensor_line(alloc: Global, name: &Name, kind: TnsKind, line: u32) -> Result<Name, AllocError>
     ensures { IfOk result
-        (λ text. text ≡ line_of (codes "sam: " ++ name.now ++ codes " line " ++ decimal line ++ codes ": " ++ tns_kind kind)) }
+        (λ text. text ≡ text_line (codes "sam: " ++ name.now ++ codes " line " ++ decimal line ++ codes ": " ++ tns_kind kind)) }
 {
     let mut text = Name::from_slice(alloc, b"sam: ")?;
     text.append(name.as_bytes())?;

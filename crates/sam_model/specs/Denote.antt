@@ -58,18 +58,18 @@ order_at (t ∷ ts) zero = t.order
 order_at (t ∷ ts) (suc n) = order_at ts n
 
 -- the coordinates of an access of tensor n, in storage order, at a tuple for these variables
-abbrev pub place_of : Program → List ℕ → List ℕ → ℕ → List ℕ → List ℕ
-place_of p loops u n vars = items_at (map (coordinate loops u) vars) (order_at p.tensors n)
+abbrev pub access_place : Program → List ℕ → List ℕ → ℕ → List ℕ → List ℕ
+access_place p loops u n vars = items_at (map (coordinate loops u) vars) (order_at p.tensors n)
 
 module _ (p : Program) (es : List Entries) where
   -- a factor's number at a tuple
   abbrev pub factor_at : List ℕ → List ℕ → Factor → ℕ
-  factor_at loops u (Access n vars) = value_at (tensor_at (stored_of p.tensors es) n) (place_of p loops u n vars)
+  factor_at loops u (Access n vars) = value_at (tensor_at (stored_of p.tensors es) n) (access_place p loops u n vars)
   factor_at loops u (Literal n) = n
 
   -- a factor's coordinates at a tuple are stored
   abbrev pub stored_at : List ℕ → List ℕ → Factor → Bool
-  stored_at loops u (Access n vars) = is_stored (tensor_at (stored_of p.tensors es) n) (place_of p loops u n vars)
+  stored_at loops u (Access n vars) = is_stored (tensor_at (stored_of p.tensors es) n) (access_place p loops u n vars)
   stored_at loops u (Literal n) = true
 
   abbrev pub product : List ℕ → List ℕ → List Factor → ℕ

@@ -38,15 +38,15 @@ abbrev pub place_above : List ℕ → ℕ → ℕ
 place_above ends q = prefix_len (λ end. nat_le end q) (drop 1 ends)
 
 -- the place above these levels that place q of the last is under
-abbrev pub place_of : List (List ℕ) → ℕ → ℕ
-place_of [] q = q
-place_of (ends ∷ segs) q = place_above ends (place_of segs q)
+abbrev pub outer_place : List (List ℕ) → ℕ → ℕ
+outer_place [] q = q
+outer_place (ends ∷ segs) q = place_above ends (outer_place segs q)
 
 -- the coordinates on the way to place q of the last level, outermost first
 abbrev pub path_of : List (List ℕ) → List (List ℕ) → ℕ → List ℕ
 path_of [] crds q = []
 path_of (ends ∷ segs) [] q = []
-path_of (ends ∷ segs) (coordinates ∷ crds) q = slice_index coordinates (place_of segs q) ∷ path_of segs crds q
+path_of (ends ∷ segs) (coordinates ∷ crds) q = slice_index coordinates (outer_place segs q) ∷ path_of segs crds q
 
 -- the values in order, each with its path
 abbrev pub listing : Written → List (List ℕ × ℕ)

@@ -6,7 +6,7 @@ use Rattle.std.proofs.lemmas.List.Sums.{fold_more, fold-append, prefix_len_stops
 use Rattle.std.proofs.lemmas.List.Folds.{list_all_at}
 use Rattle.std.proofs.lemmas.List.{take-append-drop}
 use Rattle.sam_text.specs.Bytes.{is_digit}
-use Rattle.sam_text.specs.Numbers.{decimal, is_decimal, number_at}
+use Rattle.sam_text.specs.Numbers.{decimal, is_decimal, number_reading}
 use Rattle.sam_text.specs.declared.numbers.NumFault.{NumFault}
 use Rattle.sam_text.specs.declared.numbers.NumFault.TheVariants.{BadNumber, NumberTooLarge}
 
@@ -54,7 +54,7 @@ pub is_decimal-true : (bs : List ℕ) → 0 < length bs → list_all is_digit bs
 is_decimal-true [] h e = absurd (omega (arith, h))
 is_decimal-true (b ∷ bs) h e = e
 
-pub number_at-bad : (from : ℕ) (bs : List ℕ) (count : ℕ) → is_decimal bs ≡ false → count ≡ prefix_len is_digit bs → Err (BadNumber (from + count)) ≡ number_at from bs
+pub number_at-bad : (from : ℕ) (bs : List ℕ) (count : ℕ) → is_decimal bs ≡ false → count ≡ prefix_len is_digit bs → Err (BadNumber (from + count)) ≡ number_reading from bs
 number_at-bad from bs count h e = sym (cond-false (is_decimal bs) _ _ h ∙ ap (λ n. Err (BadNumber (from + n))) (sym e))
 
 abbrev answer : ℕ → Option ℕ → Result ℕ NumFault
@@ -65,5 +65,5 @@ value-step : (t : Bool) (from n : ℕ) (o : Option ℕ) → o ≡ cond t (Some n
 value-step true from n o e = ap (answer from) e
 value-step false from n o e = ap (answer from) e
 
-pub number_at-value : (from : ℕ) (bs : List ℕ) (o : Option ℕ) → is_decimal bs ≡ true → o ≡ cond (nat_lt (decimal bs) (2 ^ 64)) (Some (decimal bs)) None → answer from o ≡ number_at from bs
+pub number_at-value : (from : ℕ) (bs : List ℕ) (o : Option ℕ) → is_decimal bs ≡ true → o ≡ cond (nat_lt (decimal bs) (2 ^ 64)) (Some (decimal bs)) None → answer from o ≡ number_reading from bs
 number_at-value from bs o h e = value-step (nat_lt (decimal bs) (2 ^ 64)) from (decimal bs) o e ∙ sym (cond-true (is_decimal bs) _ _ h)

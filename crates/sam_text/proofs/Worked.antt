@@ -3,7 +3,7 @@ use Rattle.std.proofs.Common.{◌≡◌, [], ◌∷◌, ◌++◌, true, false, O
 use Rattle.sam_text.specs.Lines.{lines}
 use Rattle.sam_text.specs.Words.{words}
 use Rattle.sam_text.specs.Names.{is_name}
-use Rattle.sam_text.specs.Numbers.{number_at}
+use Rattle.sam_text.specs.Numbers.{number_reading}
 use Rattle.sam_text.specs.declared.numbers.NumFault.TheVariants.{BadNumber, NumberTooLarge}
 
 no_lines : lines [] ≡ []
@@ -37,17 +37,17 @@ longer_name = refl
 sum_is_no_name : is_name (codes "sum") ≡ false
 sum_is_no_name = refl
 
-number : number_at 3 (codes "0018") ≡ Ok 18
+number : number_reading 3 (codes "0018") ≡ Ok 18
 number = refl
 
-greatest : number_at 3 (codes "18446744073709551615") ≡ Ok 18446744073709551615
+greatest : number_reading 3 (codes "18446744073709551615") ≡ Ok 18446744073709551615
 greatest = refl
 
-too_large : number_at 3 (codes "18446744073709551616") ≡ Err (NumberTooLarge 3)
+too_large : number_reading 3 (codes "18446744073709551616") ≡ Err (NumberTooLarge 3)
 too_large = refl
 
-no_digit : number_at 3 (codes "99999999999999999999a") ≡ Err (BadNumber 23)
+no_digit : number_reading 3 (codes "99999999999999999999a") ≡ Err (BadNumber 23)
 no_digit = refl
 
-empty : number_at 3 [] ≡ Err (BadNumber 3)
+empty : number_reading 3 [] ≡ Err (BadNumber 3)
 empty = refl

@@ -16,8 +16,8 @@ decimal bs = fold (λ n b. n * 10 + (b - 48)) 0 bs
 
 -- What a text that begins at this place is read as: the first byte that is no digit is told first, and the end of an
 -- empty text.
-abbrev pub number_at : ℕ → List ℕ → Result ℕ NumFault
-number_at from bs =
+abbrev pub number_reading : ℕ → List ℕ → Result ℕ NumFault
+number_reading from bs =
     if is_decimal bs
     then (if nat_lt (decimal bs) (2 ^ 64) then Ok (decimal bs) else Err (NumberTooLarge from))
     else Err (BadNumber (from + prefix_len is_digit bs))

@@ -3,7 +3,7 @@
 ghost use Rattle.std.specs.Prelude.{◌≡◌, ◌≤◌, ◌<◌, ◌^◌, length, slice_range, IsTrue, nat_lt, if◌then◌else◌, true, Some, None};
 ghost use Rattle.std.specs.List.{prefix_len, list_all};
 ghost use Rattle.sam_text.specs.Bytes.{is_digit};
-ghost use Rattle.sam_text.specs.Numbers.{decimal, number_at};
+ghost use Rattle.sam_text.specs.Numbers.{decimal, number_reading};
 
 use crate::bytes::is_digit;
 use thiserror::Error;
@@ -48,7 +48,7 @@ fn number_of(digits: &[u8]) -> Option<u64>
 pub fn read_u64(text: &[u8], from: usize, to: usize) -> Result<u64, NumFault>
     requires ordered { from ≤ to }
     requires in_text { to ≤ length text.now }
-    ensures { result ≡ number_at from (slice_range text.now from to) }
+    ensures { result ≡ number_reading from (slice_range text.now from to) }
 {
     let digits = &text[from..to];
     let count = digit_count(digits);

@@ -13,7 +13,7 @@ use Rattle.sam_model.specs.declared.program.Term.{Term}
 use Rattle.sam_model.specs.declared.program.Program.{Program}
 use Rattle.sam_model.specs.Lists.{below, total, is_in}
 use Rattle.sam_model.specs.Tensors.{Stored, is_stored, value_at}
-use Rattle.sam_model.specs.Denote.{loops_of, Loop, loop_list, fill, tensor_at, stored_of, place_of, product, stored_at, tuples_of, term_at, signed_terms, den, pat}
+use Rattle.sam_model.specs.Denote.{loops_of, Loop, loop_list, fill, tensor_at, stored_of, access_place, product, stored_at, tuples_of, term_at, signed_terms, den, pat}
 use Rattle.sam_model.specs.Accepted.{term_fits, accepted}
 use Rattle.stream_tokens.specs.Nest.{Leaf}
 use Rattle.stream_tokens.specs.Shapes.{Each}
@@ -157,17 +157,17 @@ product_unstored : (p : Program) (es : List Entries) (ls u : List ℕ) (factors 
     → product p es ls u factors ≡ 0
 product_unstored p es ls u [] h = absurd (cc)
 product_unstored p es ls u (Access n vars ∷ factors) h =
-    by_case (is_stored (tensor_at (stored_of p.tensors es) n) (place_of p ls u n vars)) refl h (product_unstored p es ls u factors)
+    by_case (is_stored (tensor_at (stored_of p.tensors es) n) (access_place p ls u n vars)) refl h (product_unstored p es ls u factors)
   where
-    by_case : (b : Bool) → is_stored (tensor_at (stored_of p.tensors es) n) (place_of p ls u n vars) ≡ b
+    by_case : (b : Bool) → is_stored (tensor_at (stored_of p.tensors es) n) (access_place p ls u n vars) ≡ b
         → (b && list_all (stored_at p es ls u) factors) ≡ false
         → (list_all (stored_at p es ls u) factors ≡ false → product p es ls u factors ≡ 0)
-        → (value_at (tensor_at (stored_of p.tensors es) n) (place_of p ls u n vars) * product p es ls u factors) % 2 ^ 64 ≡ 0
+        → (value_at (tensor_at (stored_of p.tensors es) n) (access_place p ls u n vars) * product p es ls u factors) % 2 ^ 64 ≡ 0
     by_case true e k r =
-        ap (λ (m : ℕ). (value_at (tensor_at (stored_of p.tensors es) n) (place_of p ls u n vars) * m) % 2 ^ 64) (r k)
-        ∙ ap (λ (m : ℕ). m % 2 ^ 64) (mul-zero (value_at (tensor_at (stored_of p.tensors es) n) (place_of p ls u n vars)))
+        ap (λ (m : ℕ). (value_at (tensor_at (stored_of p.tensors es) n) (access_place p ls u n vars) * m) % 2 ^ 64) (r k)
+        ∙ ap (λ (m : ℕ). m % 2 ^ 64) (mul-zero (value_at (tensor_at (stored_of p.tensors es) n) (access_place p ls u n vars)))
     by_case false e k r =
-        ap (λ (m : ℕ). (m * product p es ls u factors) % 2 ^ 64) (value-unstored (tensor_at (stored_of p.tensors es) n) (place_of p ls u n vars) e)
+        ap (λ (m : ℕ). (m * product p es ls u factors) % 2 ^ 64) (value-unstored (tensor_at (stored_of p.tensors es) n) (access_place p ls u n vars) e)
         ∙ ap (λ (m : ℕ). m % 2 ^ 64) (zero-mul (product p es ls u factors))
 product_unstored p es ls u (Literal n ∷ factors) h =
     ap (λ (m : ℕ). (n * m) % 2 ^ 64) (product_unstored p es ls u factors h) ∙ ap (λ (m : ℕ). m % 2 ^ 64) (mul-zero n)

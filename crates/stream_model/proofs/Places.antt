@@ -11,7 +11,7 @@ use Rattle.sam_model.specs.declared.program.Factor.TheVariants.{Access, Literal}
 use Rattle.sam_model.specs.declared.program.Term.{Term}
 use Rattle.sam_model.specs.declared.program.Program.{Program}
 use Rattle.sam_model.specs.Lists.{below, items_at, is_in, coordinate}
-use Rattle.sam_model.specs.Denote.{has_var, loops_of, Loop, loop_list, tensor_at, stored_of, order_at, place_of}
+use Rattle.sam_model.specs.Denote.{has_var, loops_of, Loop, loop_list, tensor_at, stored_of, order_at, access_place}
 use Rattle.sam_model.specs.Accepted.{distinct, ascending, is_dimension, is_order, is_well_formed, is_operand, variables_fit, access_fits, tensor_passes, factor_fits, is_access, term_has, factor_reduces, term_fits, is_result, distinct_tensors, is_taken, is_compressed, declarations_fit, statement_fits, accepted, distinct_names, stands}
 use Rattle.stream_tokens.specs.Shapes.{Each}
 use Rattle.stream_tokens.proofs.Algebra.{map-map}
@@ -120,7 +120,7 @@ each_member Q (x ∷ xs) h =
 
 -- its coordinates in storage order are those that its mask keeps, and so are its sizes
 pub record Placed (p : Program) (es : List Entries) (t : Term) (n : ℕ) (vars : List ℕ) : Type 0 where
-  pub at : (u : List ℕ) → length u ≡ length (loops_of p t) → place_of p (loops_of p t) u n vars ≡ keep (mask_of (loops_of p t) vars) u
+  pub at : (u : List ℕ) → length u ≡ length (loops_of p t) → access_place p (loops_of p t) u n vars ≡ keep (mask_of (loops_of p t) vars) u
   pub sizes : keep (mask_of (loops_of p t) vars) (loop_sizes (loop_list p t)) ≡ (tensor_at (stored_of p.tensors es) n).sizes
 
 -- the variables of one tensor are found among the loops of a term that has them
@@ -167,7 +167,7 @@ placed p es t n vars d has = record { at = at; sizes = sizes }
     kept : Kept p t vars d.tensor
     kept = kept-at p t vars d.tensor d.fits (and_parts (nat_le 1 (length d.tensor.dims)) (is_well_formed d.tensor) d.operand).1 has
 
-    at : (u : List ℕ) → length u ≡ length (loops_of p t) → place_of p (loops_of p t) u n vars ≡ keep (mask_of (loops_of p t) vars) u
+    at : (u : List ℕ) → length u ≡ length (loops_of p t) → access_place p (loops_of p t) u n vars ≡ keep (mask_of (loops_of p t) vars) u
     at u e =
         ap (items_at (map (coordinate (loops_of p t) u) vars)) d.order_is
         ∙ items_at-map (coordinate (loops_of p t) u) vars d.tensor.order (order-in-range (length vars) d.tensor.order kept.permutes)

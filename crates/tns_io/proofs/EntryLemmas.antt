@@ -8,11 +8,12 @@ use Rattle.sam_model.specs.Lists.{within}
 use Rattle.sam_model.specs.Tensors.{entry_list}
 use Rattle.sam_text.specs.Lines.{lines}
 use Rattle.sam_text.specs.Words.{words}
-use Rattle.tns_io.specs.Fields.{Entry, entry_of, is_skipped}
-use Rattle.tns_io.specs.Entries.{Line, limited, next_entry, with_entry, entry_lines, entries_of, tns_entries}
+use Rattle.sam_text.specs.Words.{is_skipped}
+use Rattle.tns_io.specs.Fields.{Entry, line_entry}
+use Rattle.tns_io.specs.Entries.{limited, next_entry, with_entry, entry_lines, entries_of, tns_entries}
 use Rattle.tns_io.specs.declared.faults.LineFault.{LineFault}
 use Rattle.tns_io.specs.declared.faults.LineFault.TheVariants as line
-use Rattle.tns_io.specs.Answers.{Reads, IfRefused, at_line, entries_then}
+use Rattle.tns_io.specs.Answers.{Reads, IfTnsRefused, at_line, entries_then}
 use Rattle.tns_io.proofs.FieldLemmas.{FitsSizes, entry-fits}
 
 abbrev pub File : Type 0
@@ -46,7 +47,7 @@ limited-ok false (Ok f) e h = cc
 limited-ok room (Err kind) e h = cc
 
 pub next-fits : (sizes : List ℕ) (count : ℕ) (line : List ℕ) (e : Entry) → next_entry sizes count line ≡ Ok e → FitsSizes sizes e.0
-next-fits sizes count line e h = entry-fits sizes (words line) e (limited-ok (nat_lt count ENTRIES_MOST) (entry_of sizes (words line)) e h)
+next-fits sizes count line e h = entry-fits sizes (words line) e (limited-ok (nat_lt count ENTRIES_MOST) (line_entry sizes (words line)) e h)
 
 with-step : (sizes : List ℕ) (n : ℕ) (r : Result Entry TnsKind) (rest : File) (es : List Entry) → ((e : Entry) → r ≡ Ok e → within sizes e.0 ≡ true) → ((more : List Entry) → rest ≡ Ok more → list_all (λ (e : Entry). within sizes e.0) more ≡ true)
     → with_entry n r rest ≡ Ok es → list_all (λ (e : Entry). within sizes e.0) es ≡ true
@@ -57,7 +58,7 @@ with-step sizes n (Ok e) (Ok more) es a b h =
     rw (← same) (rw (a e refl) (b more refl))
 
 -- the entries of a file fit the sizes of the modes
-pub entries-within : (sizes : List ℕ) (count : ℕ) (ls : List Line) (es : List Entry) → entries_of sizes count ls ≡ Ok es → list_all (λ (e : Entry). within sizes e.0) es ≡ true
+pub entries-within : (sizes : List ℕ) (count : ℕ) (ls : List (ℕ × List ℕ)) (es : List Entry) → entries_of sizes count ls ≡ Ok es → list_all (λ (e : Entry). within sizes e.0) es ≡ true
 entries-within sizes count [] es h = let same : [] ≡ es = cc in rw (← same) refl
 entries-within sizes count (l ∷ ls) es h =
     with-step sizes l.0 (next_entry sizes count l.1) (entries_of sizes (suc count) ls) es
@@ -71,11 +72,11 @@ pub kept-line : (n : ℕ) (l : List ℕ) (ls : List (List ℕ)) → is_skipped (
 kept-line n l ls h = rw h refl
 
 -- what a line with an entry makes of those before
-pub record Grown (sizes cs vs : List ℕ) (more : List Line) (file : File) : Type 0 where
+pub record Grown (sizes cs vs : List ℕ) (more : List (ℕ × List ℕ)) (file : File) : Type 0 where
   pub whole : length cs ≡ length sizes * length vs
   pub same : entries_after (entry_list (length sizes) cs vs) (entries_of sizes (length vs) more) ≡ file
 
-grow : (sizes cs vs ds ws : List ℕ) (n : ℕ) (more : List Line) (file : File) (r : Result Entry TnsKind) → length cs ≡ length sizes * length vs → ((e : Entry) → r ≡ Ok e → length e.0 ≡ length sizes)
+grow : (sizes cs vs ds ws : List ℕ) (n : ℕ) (more : List (ℕ × List ℕ)) (file : File) (r : Result Entry TnsKind) → length cs ≡ length sizes * length vs → ((e : Entry) → r ≡ Ok e → length e.0 ≡ length sizes)
     → entries_after (entry_list (length sizes) cs vs) (with_entry n r (entries_of sizes (suc (length vs)) more)) ≡ file → entries_then cs vs r ≡ Ok (ds, ws) → Grown sizes ds ws more file
 grow sizes cs vs ds ws n more file (Err kind) h fits same e = cc
 grow sizes cs vs ds ws n more file (Ok entry) h fits same e =
@@ -115,7 +116,7 @@ at-end es sizes count n from text file h same =
     sym (sym (nothing-after es) ∙ rw none at same)
 
 -- the fault of a line, with its number
-pub fault-goes : {A B : Type 0} (fault : LineFault) (n : ℕ) (value : A → B) (reading : Result B TnsKind) (P : TnsKind → ℕ → Type 0) → Reads {A = A} {B = B} (Err fault) value reading → ((kind : TnsKind) → reading ≡ Err kind → P kind n) → IfRefused (at_line fault n) P
+pub fault-goes : {A B : Type 0} (fault : LineFault) (n : ℕ) (value : A → B) (reading : Result B TnsKind) (P : TnsKind → ℕ → Type 0) → Reads {A = A} {B = B} (Err fault) value reading → ((kind : TnsKind) → reading ≡ Err kind → P kind n) → IfTnsRefused (at_line fault n) P
 fault-goes (line.Refused kind) n value reading P h f = f kind h
 fault-goes line.OutOfMemory n value reading P h f = tt
 

@@ -5,8 +5,8 @@ use Rattle.sam_base.specs.declared.faults.TnsKind.{TnsKind}
 use Rattle.sam_base.specs.declared.faults.TnsKind.TheVariants.{FieldCount, CoordinateRange, BadField}
 use Rattle.sam_model.specs.Lists.{within}
 use Rattle.sam_text.specs.Numbers.{is_decimal, decimal}
-use Rattle.tns_io.specs.Values.{coordinate_of, value_of}
-use Rattle.tns_io.specs.Fields.{Entry, with_coordinate, with_value, fields_of, entry_of}
+use Rattle.tns_io.specs.Values.{word_coordinate, word_value}
+use Rattle.tns_io.specs.Fields.{Entry, with_coordinate, with_value, fields_of, line_entry}
 
 -- coordinates that fit the sizes of the modes
 pub record FitsSizes (sizes cs : List ℕ) : Type 0 where
@@ -34,7 +34,7 @@ below-step true true n c h = (refl, cc)
 below-step true false n c h = cc
 below-step false u n c h = cc
 
-coordinate-below : (size : ℕ) (w : List ℕ) (c : ℕ) → coordinate_of size w ≡ Ok c → c < size
+coordinate-below : (size : ℕ) (w : List ℕ) (c : ℕ) → word_coordinate size w ≡ Ok c → c < size
 coordinate-below size w c h =
     let s = below-step (is_decimal w) (nat_le 1 (decimal w) && nat_le (decimal w) size) (decimal w - 1) c h in
     let p = and_parts _ _ s.0 in
@@ -44,9 +44,9 @@ coordinate-below size w c h =
 
 pub fields-fit : (sizes : List ℕ) (ws : List (List ℕ)) (e : Entry) → fields_of sizes ws ≡ Ok e → FitsSizes sizes e.0
 fields-fit sizes [] e h = cc
-fields-fit [] (w ∷ more) e h = let a = alone (value_of w) e h in rw (← a) (record { many = refl; below = refl })
+fields-fit [] (w ∷ more) e h = let a = alone (word_value w) e h in rw (← a) (record { many = refl; below = refl })
 fields-fit (size ∷ sizes) (w ∷ more) e h =
-    let j = joined (coordinate_of size w) (fields_of sizes more) e h in
+    let j = joined (word_coordinate size w) (fields_of sizes more) e h in
     let rest = fields-fit sizes more j.f j.rest in
     rw (← j.parts) (record {
       many = omega (arith, rest.many);
@@ -57,5 +57,5 @@ counted-step : (t : Bool) (r : Result Entry TnsKind) (e : Entry) → cond t r (E
 counted-step true r e h = h
 counted-step false r e h = cc
 
-pub entry-fits : (sizes : List ℕ) (ws : List (List ℕ)) (e : Entry) → entry_of sizes ws ≡ Ok e → FitsSizes sizes e.0
+pub entry-fits : (sizes : List ℕ) (ws : List (List ℕ)) (e : Entry) → line_entry sizes ws ≡ Ok e → FitsSizes sizes e.0
 entry-fits sizes ws e h = fields-fit sizes ws e (counted-step (eqb (length ws) (suc (length sizes))) (fields_of sizes ws) e h)

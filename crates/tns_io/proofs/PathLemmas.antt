@@ -2,7 +2,7 @@
 use Rattle.std.proofs.Common.{◌≡◌, ℕ, zero, suc, ◌+◌, ◌<◌, ◌≤◌, Bool, true, false, cond, List, [], ◌∷◌, length, get_or, drop, refl, sym, ◌∙◌, arith, nat_le, add-one}
 use Rattle.std.proofs.lemmas.Bool.{leb-true, le-leb, lt-leb}
 use Rattle.std.specs.List.{prefix_len}
-use Rattle.sam_model.specs.Listing.{LevelsInRange, ValuesInRange, InRange, place_above, place_of}
+use Rattle.sam_model.specs.Listing.{LevelsInRange, ValuesInRange, InRange, place_above, outer_place}
 use Rattle.sam_model.specs.declared.tensors.Written.{Written}
 use Rattle.tns_io.specs.Walks.{IsReached, NotPast}
 
@@ -49,9 +49,9 @@ ends-before (e ∷ ends) p q h =
     step-up (nat_le e p) (nat_le e q) _ _
     (λ k. let low : e ≤ p = leb-true _ _ k in le-leb e q (omega arith)) (ends-before ends p q h)
 
-pub place-grows : (segs : List (List ℕ)) (p q : ℕ) → p ≤ q → place_of segs p ≤ place_of segs q
+pub place-grows : (segs : List (List ℕ)) (p q : ℕ) → p ≤ q → outer_place segs p ≤ outer_place segs q
 place-grows [] p q h = h
-place-grows (ends ∷ segs) p q h = ends-before (drop 1 ends) (place_of segs p) (place_of segs q) (place-grows segs p q h)
+place-grows (ends ∷ segs) p q h = ends-before (drop 1 ends) (outer_place segs p) (outer_place segs q) (place-grows segs p q h)
 
 pub not-past-next : (fibers : List ℕ) (segs : List (List ℕ)) (p q : ℕ) → p ≤ q → NotPast fibers segs p → NotPast fibers segs q
 not-past-next fibers segs p q h n k less = let more = place-grows (drop k segs) p q h in let old = n k less in omega arith
@@ -86,7 +86,7 @@ all-have [] vals h = h
 all-have (cs ∷ crds) vals h = last-has cs crds vals h
 
 record Reached (above : ℕ) (segs crds : List (List ℕ)) (q : ℕ) : Type 0 where
-  place : place_of segs q < above
+  place : outer_place segs q < above
   there : (k : ℕ) → k < length segs → IsReached (drop k segs) (drop k crds) q
 
 reached : (above : ℕ) (segs crds : List (List ℕ)) (vals : List ℕ) (q : ℕ) → length segs ≡ length crds → LevelsInRange above segs crds → LastHas above crds vals → q < length vals → Reached above segs crds q
@@ -95,7 +95,7 @@ reached above [] (cs ∷ crds) vals q e h l k = absurd (omega (arith, e))
 reached above (ends ∷ segs) [] vals q e h l k = absurd (omega (arith, e))
 reached above (ends ∷ segs) (cs ∷ crds) vals q e h l k =
     let below = reached (length cs) segs crds vals q (omega (arith, e)) h.1 l k in
-    let fiber = ends-behind ends above (place_of segs q) (length cs) h.0.count h.0.first h.0.last below.place in
+    let fiber = ends-behind ends above (outer_place segs q) (length cs) h.0.count h.0.first h.0.last below.place in
     record { place = fiber; there = each-level ends segs cs crds q (below.place, omega (arith, h.0.count)) below.there }
   where
     each-level : (ends : List ℕ) (segs : List (List ℕ)) (cs : List ℕ) (crds : List (List ℕ)) (q : ℕ) → IsReached (ends ∷ segs) (cs ∷ crds) q → ((k : ℕ) → k < length segs → IsReached (drop k segs) (drop k crds) q) → (k : ℕ) → k < suc (length segs) → IsReached (drop k (ends ∷ segs)) (drop k (cs ∷ crds)) q

@@ -4,7 +4,7 @@ use Rattle.std.proofs.Math.ListN.{set}
 use Rattle.std.proofs.Math.Seq.{drop-cons}
 use Rattle.std.proofs.lemmas.List.{drop-set}
 use Rattle.std.specs.List.{slice_get}
-use Rattle.sam_model.specs.Listing.{place_above, place_of, path_of}
+use Rattle.sam_model.specs.Listing.{place_above, outer_place, path_of}
 use Rattle.tns_io.specs.Walks.{IsReached, NotPast}
 
 get-drop : (xs : List (List ℕ)) (k : ℕ) (x : List ℕ) → slice_get xs k ≡ Some x → drop k xs ≡ x ∷ drop (suc k) xs
@@ -24,17 +24,17 @@ pub level-in : (xs : List (List ℕ)) (level : ℕ) → 0 < level → level ≤ 
 level-in xs zero h k = absurd (omega (arith, h))
 level-in xs (suc n) h k = let one : suc n - 1 ≡ n = omega arith in rw one (drop-cons xs n [] (omega arith))
 
-pub level-there : (segs crds : List (List ℕ)) (ends cs : List ℕ) (level place q : ℕ) → drop (level - 1) segs ≡ ends ∷ drop level segs → drop (level - 1) crds ≡ cs ∷ drop level crds → place ≡ place_of (drop level segs) q
+pub level-there : (segs crds : List (List ℕ)) (ends cs : List ℕ) (level place q : ℕ) → drop (level - 1) segs ≡ ends ∷ drop level segs → drop (level - 1) crds ≡ cs ∷ drop level crds → place ≡ outer_place (drop level segs) q
     → IsReached (drop (level - 1) segs) (drop (level - 1) crds) q → (place < length cs) × (place_above ends place + 1 < length ends)
 level-there segs crds ends cs level place q s c p h =
     let both : IsReached (ends ∷ drop level segs) (cs ∷ drop level crds) q = rw (s, c) at h in
     rw p both
 
-pub level-behind : (segs : List (List ℕ)) (ends fibers : List ℕ) (level place q : ℕ) → 0 < level → level ≤ length segs → drop (level - 1) segs ≡ ends ∷ drop level segs → place ≡ place_of (drop level segs) q → NotPast fibers segs q
+pub level-behind : (segs : List (List ℕ)) (ends fibers : List ℕ) (level place q : ℕ) → 0 < level → level ≤ length segs → drop (level - 1) segs ≡ ends ∷ drop level segs → place ≡ outer_place (drop level segs) q → NotPast fibers segs q
     → get_or fibers (level - 1) 0 ≤ place_above ends place
 level-behind segs ends fibers level place q h k s p n =
-    let old : get_or fibers (level - 1) 0 ≤ place_of (drop (level - 1) segs) q = n (level - 1) (omega arith) in
-    let all : get_or fibers (level - 1) 0 ≤ place_of (ends ∷ drop level segs) q = rw s at old in
+    let old : get_or fibers (level - 1) 0 ≤ outer_place (drop (level - 1) segs) q = n (level - 1) (omega arith) in
+    let all : get_or fibers (level - 1) 0 ≤ outer_place (ends ∷ drop level segs) q = rw s at old in
     rw p all
 
 set-below : (l : List ℕ) (i f j b : ℕ) → (j ≡ i → f ≤ b) → get_or l j 0 ≤ b → get_or (set l i f) j 0 ≤ b
@@ -46,7 +46,7 @@ set-below (x ∷ l) (suc i) f (suc j) b a h = set-below l i f j b (λ e. a (ap s
 
 -- what holds once a level is done
 pub record Done (segs crds : List (List ℕ)) (path fibers : List ℕ) (level fiber q : ℕ) : Type 0 where
-  pub place : fiber ≡ place_of (drop level segs) q
+  pub place : fiber ≡ outer_place (drop level segs) q
   pub written : drop level path ≡ path_of (drop level segs) (drop level crds) q
   pub before : NotPast fibers segs q
 
@@ -54,10 +54,10 @@ set-drop : (path : List ℕ) (level v : ℕ) → 0 < level → level ≤ length 
 set-drop path zero v h k = absurd (omega (arith, h))
 set-drop path (suc n) v h k = let one : suc n - 1 ≡ n = omega arith in rw one (drop-set path n v (omega arith) ∙ ap (λ (i : ℕ). v ∷ drop i path) (add-one n))
 
-pub level-done : (segs crds : List (List ℕ)) (ends cs path fibers : List ℕ) (level place q v fiber : ℕ) → 0 < level → level ≤ length path → drop (level - 1) segs ≡ ends ∷ drop level segs → drop (level - 1) crds ≡ cs ∷ drop level crds → place ≡ place_of (drop level segs) q
+pub level-done : (segs crds : List (List ℕ)) (ends cs path fibers : List ℕ) (level place q v fiber : ℕ) → 0 < level → level ≤ length path → drop (level - 1) segs ≡ ends ∷ drop level segs → drop (level - 1) crds ≡ cs ∷ drop level crds → place ≡ outer_place (drop level segs) q
     → drop level path ≡ path_of (drop level segs) (drop level crds) q → NotPast fibers segs q → v ≡ get_or cs place 0 → fiber ≡ place_above ends place → Done segs crds (set path (level - 1) v) (set fibers (level - 1) fiber) (level - 1) fiber q
 level-done segs crds ends cs path fibers level place q v fiber h k s c p d n e f =
-    let here : fiber ≡ place_of (drop (level - 1) segs) q = rw (s, f, p) refl in
+    let here : fiber ≡ outer_place (drop (level - 1) segs) q = rw (s, f, p) refl in
     record {
       place = here;
       written = set-drop path level v h k ∙ rw (s, c, e, p, d) refl;

@@ -2,7 +2,7 @@
 use Rattle.std.proofs.Common.{◌≡◌, ◌-◌, ◌^◌, ℕ, List, [], ◌∷◌, Result, Ok, Err, codes, refl}
 use Rattle.sam_base.specs.declared.faults.TnsKind.{TnsKind}
 use Rattle.sam_base.specs.declared.faults.TnsKind.TheVariants.{FieldCount, BadField, CoordinateRange, Fraction, ValueRange, TooManyEntries}
-use Rattle.tns_io.specs.Values.{coordinate_of, value_of}
+use Rattle.tns_io.specs.Values.{word_coordinate, word_value}
 use Rattle.tns_io.specs.Fields.{Entry}
 use Rattle.tns_io.specs.Entries.{next_entry, tns_entries}
 
@@ -55,29 +55,29 @@ matrix-range = refl
 matrix : tns_entries (2 ∷ 3 ∷ []) (codes " 2\t003 -1\r\n#\n1 1 +7.") ≡ Ok (((1 ∷ 2 ∷ []), 2 ^ 64 - 1) ∷ ((0 ∷ 0 ∷ []), 7) ∷ [])
 matrix = refl
 
-huge-coordinate : coordinate_of 4 (codes "100000000000000000000") ≡ Err CoordinateRange
+huge-coordinate : word_coordinate 4 (codes "100000000000000000000") ≡ Err CoordinateRange
 huge-coordinate = refl
 
-least-value : value_of (codes "-9223372036854775808.00") ≡ Ok (2 ^ 63)
+least-value : word_value (codes "-9223372036854775808.00") ≡ Ok (2 ^ 63)
 least-value = refl
 
-below-least : value_of (codes "-9223372036854775809") ≡ Err ValueRange
+below-least : word_value (codes "-9223372036854775809") ≡ Err ValueRange
 below-least = refl
 
 -- a fraction comes before the range
-fraction-first : value_of (codes "18446744073709551616.5") ≡ Err Fraction
+fraction-first : word_value (codes "18446744073709551616.5") ≡ Err Fraction
 fraction-first = refl
 
-minus-zero : value_of (codes "-0") ≡ Ok 0
+minus-zero : word_value (codes "-0") ≡ Ok 0
 minus-zero = refl
 
-no-whole : value_of (codes ".5") ≡ Err BadField
+no-whole : word_value (codes ".5") ≡ Err BadField
 no-whole = refl
 
-sign-alone : value_of (codes "+") ≡ Err BadField
+sign-alone : word_value (codes "+") ≡ Err BadField
 sign-alone = refl
 
-two-points : value_of (codes "1.0.0") ≡ Err BadField
+two-points : word_value (codes "1.0.0") ≡ Err BadField
 two-points = refl
 
 -- one entry too many; a bad entry has its own kind there

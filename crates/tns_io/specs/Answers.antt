@@ -13,9 +13,9 @@ at_line (line.Refused kind) n = tns.Refused kind n
 at_line line.OutOfMemory n = tns.OutOfMemory
 
 -- a fact of a refusal
-abbrev pub IfRefused : TnsFault → (TnsKind → ℕ → Type 0) → Type 0
-IfRefused (tns.Refused kind n) P = P kind n
-IfRefused tns.OutOfMemory P = Unit {0}
+abbrev pub IfTnsRefused : TnsFault → (TnsKind → ℕ → Type 0) → Type 0
+IfTnsRefused (tns.Refused kind n) P = P kind n
+IfTnsRefused tns.OutOfMemory P = Unit {0}
 
 -- a line is read as `reading` says, unless memory runs out
 abbrev pub Reads : {A B : Type 0} → Result A LineFault → (A → B) → Result B TnsKind → Type 0

@@ -5,15 +5,11 @@ use Rattle.sam_base.specs.declared.faults.TnsKind.{TnsKind}
 use Rattle.sam_base.specs.declared.faults.TnsKind.TheVariants.{TooManyEntries}
 use Rattle.sam_base.specs.declared.TheConstants.{ENTRIES_MOST}
 use Rattle.sam_text.specs.Lines.{lines}
-use Rattle.sam_text.specs.Words.{words}
-use Rattle.tns_io.specs.Fields.{Entry, entry_of, is_skipped}
-
--- a line with its number
-abbrev pub Line : Type 0
-Line = ℕ × List ℕ
+use Rattle.sam_text.specs.Words.{words, is_skipped}
+use Rattle.tns_io.specs.Fields.{Entry, line_entry}
 
 -- the lines with entries, with their numbers from this one on
-abbrev pub entry_lines : ℕ → List (List ℕ) → List Line
+abbrev pub entry_lines : ℕ → List (List ℕ) → List (ℕ × List ℕ)
 entry_lines n ls = filter (λ line. not (is_skipped (words line.1))) (enumerate_from n ls)
 
 -- an entry that is right, where there is room for one more
@@ -24,7 +20,7 @@ limited false (Ok entry) = Err TooManyEntries
 
 -- the entry of a line, after so many others
 abbrev pub next_entry : List ℕ → ℕ → List ℕ → Result Entry TnsKind
-next_entry sizes count line = limited (nat_lt count ENTRIES_MOST) (entry_of sizes (words line))
+next_entry sizes count line = limited (nat_lt count ENTRIES_MOST) (line_entry sizes (words line))
 
 -- an entry before those of later lines: what is wrong with it comes first, with the number of its line
 abbrev pub with_entry : ℕ → Result Entry TnsKind → Result (List Entry) (TnsKind × ℕ) → Result (List Entry) (TnsKind × ℕ)
@@ -33,7 +29,7 @@ with_entry n (Ok entry) (Err fault) = Err fault
 with_entry n (Ok entry) (Ok entries) = Ok (entry ∷ entries)
 
 -- the entries of such lines, after so many others
-abbrev pub entries_of : List ℕ → ℕ → List Line → Result (List Entry) (TnsKind × ℕ)
+abbrev pub entries_of : List ℕ → ℕ → List (ℕ × List ℕ) → Result (List Entry) (TnsKind × ℕ)
 entries_of sizes count [] = Ok []
 entries_of sizes count (line ∷ more) =
     with_entry line.0 (next_entry sizes count line.1) (entries_of sizes (suc count) more)

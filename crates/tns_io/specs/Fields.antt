@@ -1,8 +1,8 @@
 -- The lines of a tensor file, each by itself.
-use Rattle.std.specs.Prelude.{ℕ, suc, ◌==◌, Bool, true, false, List, [], ◌∷◌, Result, Ok, Err, length, if◌then◌else◌}
+use Rattle.std.specs.Prelude.{ℕ, suc, ◌==◌, List, [], ◌∷◌, Result, Ok, Err, length, if◌then◌else◌}
 use Rattle.sam_base.specs.declared.faults.TnsKind.{TnsKind}
 use Rattle.sam_base.specs.declared.faults.TnsKind.TheVariants.{FieldCount}
-use Rattle.tns_io.specs.Values.{coordinate_of, value_of}
+use Rattle.tns_io.specs.Values.{word_coordinate, word_value}
 
 -- an entry: its coordinates from 0, by mode, and its value modulo 2^64
 abbrev pub Entry : Type 0
@@ -22,18 +22,9 @@ with_value (Err kind) = Err kind
 -- a word for each mode, by its size, and then the value
 abbrev pub fields_of : List ℕ → List (List ℕ) → Result Entry TnsKind
 fields_of sizes [] = Err FieldCount
-fields_of [] (word ∷ more) = with_value (value_of word)
-fields_of (size ∷ sizes) (word ∷ more) = with_coordinate (coordinate_of size word) (fields_of sizes more)
+fields_of [] (word ∷ more) = with_value (word_value word)
+fields_of (size ∷ sizes) (word ∷ more) = with_coordinate (word_coordinate size word) (fields_of sizes more)
 
 -- what a line is read as, by its words, which are to be one more than the modes
-abbrev pub entry_of : List ℕ → List (List ℕ) → Result Entry TnsKind
-entry_of sizes line_words = if length line_words == suc (length sizes) then fields_of sizes line_words else Err FieldCount
-
-abbrev pub is_comment : List ℕ → Bool
-is_comment [] = false
-is_comment (b ∷ bs) = b == 35
-
--- whether a line is skipped, by its words: it has none, or a `#` begins the first
-abbrev pub is_skipped : List (List ℕ) → Bool
-is_skipped [] = true
-is_skipped (word ∷ more) = is_comment word
+abbrev pub line_entry : List ℕ → List (List ℕ) → Result Entry TnsKind
+line_entry sizes line_words = if length line_words == suc (length sizes) then fields_of sizes line_words else Err FieldCount

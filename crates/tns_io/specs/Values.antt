@@ -7,8 +7,8 @@ use Rattle.sam_text.specs.Bytes.{is_digit}
 use Rattle.sam_text.specs.Numbers.{is_decimal, decimal}
 
 -- a coordinate in a mode of this size: a decimal from 1 to the size stands for a coordinate from 0
-abbrev pub coordinate_of : ℕ → List ℕ → Result ℕ TnsKind
-coordinate_of size word =
+abbrev pub word_coordinate : ℕ → List ℕ → Result ℕ TnsKind
+word_coordinate size word =
     if is_decimal word
     then (if nat_le 1 (decimal word) && nat_le (decimal word) size then Ok (decimal word - 1) else Err CoordinateRange)
     else Err BadField
@@ -30,24 +30,24 @@ unsigned [] = []
 unsigned (b ∷ bs) = if b == 45 || b == 43 then bs else b ∷ bs
 
 -- what stands before the point of a value, and behind it
-abbrev pub whole_of : List ℕ → List ℕ
-whole_of word = before_first is_point (unsigned word)
+abbrev pub whole_part : List ℕ → List ℕ
+whole_part word = before_first is_point (unsigned word)
 
-abbrev pub fraction_of : List ℕ → List ℕ
-fraction_of word = after_first is_point (unsigned word)
+abbrev pub fraction_part : List ℕ → List ℕ
+fraction_part word = after_first is_point (unsigned word)
 
 -- an optional sign, a decimal, and optionally a point and any number of digits
 abbrev pub is_value : List ℕ → Bool
-is_value word = is_decimal (whole_of word) && list_all is_digit (fraction_of word)
+is_value word = is_decimal (whole_part word) && list_all is_digit (fraction_part word)
 
 -- a number with its sign is from -2^63 to 2^64-1, and is kept modulo 2^64
-abbrev pub kept : Bool → ℕ → Result ℕ TnsKind
-kept true n = if nat_le n (2 ^ 63) then Ok ((2 ^ 64 - n) % 2 ^ 64) else Err ValueRange
-kept false n = if nat_lt n (2 ^ 64) then Ok n else Err ValueRange
+abbrev pub signed_value : Bool → ℕ → Result ℕ TnsKind
+signed_value true n = if nat_le n (2 ^ 63) then Ok ((2 ^ 64 - n) % 2 ^ 64) else Err ValueRange
+signed_value false n = if nat_lt n (2 ^ 64) then Ok n else Err ValueRange
 
 -- a value, whose fraction is to be 0
-abbrev pub value_of : List ℕ → Result ℕ TnsKind
-value_of word =
+abbrev pub word_value : List ℕ → Result ℕ TnsKind
+word_value word =
     if is_value word
-    then (if list_all is_zero (fraction_of word) then kept (is_minus word) (decimal (whole_of word)) else Err Fraction)
+    then (if list_all is_zero (fraction_part word) then signed_value (is_minus word) (decimal (whole_part word)) else Err Fraction)
     else Err BadField

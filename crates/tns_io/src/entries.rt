@@ -5,13 +5,13 @@ ghost use Rattle.std.specs.List.{list_all};
 ghost use Rattle.sam_model.specs.Lists.{within};
 ghost use Rattle.sam_model.specs.Tensors.{entry_list};
 ghost use Rattle.tns_io.specs.Entries.{next_entry, tns_entries};
-ghost use Rattle.tns_io.specs.Answers.{Reads, IfRefused, entries_then};
+ghost use Rattle.tns_io.specs.Answers.{Reads, IfTnsRefused, entries_then};
 
 use crate::faults::{LineFault, TnsFault};
-use crate::fields::{is_skipped, read_entry};
+use crate::fields::read_entry;
 use sam_base::{ENTRIES_MOST, FILE_MOST, Nums, TnsKind, VARIABLES_MOST};
 use sam_model::Entries;
-use sam_text::line_at;
+use sam_text::{is_skipped, line_at};
 use std::alloc::Global;
 
 /// Reads the line of an entry, and appends the entry.
@@ -46,7 +46,7 @@ pub fn read_tns(alloc: Global, text: &[u8], dims: &Nums) -> Result<Entries, TnsF
     ensures arity { IfOk result (λ e. e.arity ≡ length dims.now) }
     ensures whole { IfOk result (λ e. length e.coords ≡ e.arity * length e.values) }
     ensures in_range { IfOk result (λ e. list_all (λ entry. within dims.now entry.0) (entry_list e.arity e.coords e.values) ≡ true) }
-    ensures refused { IfErr result (λ fault. IfRefused fault (λ kind line. tns_entries dims.now text.now ≡ Err (kind, line))) }
+    ensures refused { IfErr result (λ fault. IfTnsRefused fault (λ kind line. tns_entries dims.now text.now ≡ Err (kind, line))) }
 {
     let mut coords = Nums::new(alloc);
     let mut values = Nums::new(alloc);

@@ -6,8 +6,6 @@ mod faults;
 mod fields;
 mod paths;
 mod results;
-#[cfg(test)]
-mod tests;
 mod values;
 
 pub use entries::read_tns;

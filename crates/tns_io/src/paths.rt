@@ -1,7 +1,7 @@
 //! The paths of a written result's values, one after another.
 
 ghost use Rattle.std.specs.Prelude.{◌≡◌, ◌≤◌, ◌<◌, ◌+◌, ℕ, length, drop, slice_index};
-ghost use Rattle.sam_model.specs.Listing.{place_above, place_of, path_of};
+ghost use Rattle.sam_model.specs.Listing.{place_above, outer_place, path_of};
 ghost use Rattle.tns_io.specs.Walks.{IsReached, NotPast};
 
 use sam_model::Written;

@@ -2,15 +2,15 @@
 
 ghost use Rattle.std.specs.Prelude.{◌≡◌};
 ghost use Rattle.std.specs.List.{list_all, position_or_len, after_first};
-ghost use Rattle.sam_text.specs.Bytes.{is_digit as digit_byte};
-ghost use Rattle.tns_io.specs.Values.{is_point, is_zero, is_minus, unsigned, kept, coordinate_of, value_of};
+ghost use Rattle.sam_text.specs.Bytes.{is_digit};
+ghost use Rattle.tns_io.specs.Values.{is_point, is_zero, is_minus, unsigned, signed_value, word_coordinate, word_value};
 
 use sam_base::TnsKind;
 use sam_text::{NumFault, is_digit, read_u64};
 
 /// The coordinate that a word stands for, from 0, in a mode of this size.
 pub fn read_coordinate(word: &[u8], size: u64) -> Result<u64, TnsKind>
-    ensures { result ≡ coordinate_of size word.now }
+    ensures { result ≡ word_coordinate size word.now }
 {
     match read_u64(word, 0, word.len()) {
         Ok(number) => {
@@ -70,7 +70,7 @@ fn fraction_behind(number: &[u8]) -> &[u8]
 }
 
 fn are_digits(bytes: &[u8]) -> bool
-    ensures { result ≡ list_all digit_byte bytes.now }
+    ensures { result ≡ list_all is_digit bytes.now }
 {
     bytes.iter().all(|byte| is_digit(*byte))
 }
@@ -83,7 +83,7 @@ fn are_zeros(bytes: &[u8]) -> bool
 
 /// A number with its sign, modulo 2^64.
 fn keep(minus: bool, number: u64) -> Result<u64, TnsKind>
-    ensures { result ≡ kept minus number }
+    ensures { result ≡ signed_value minus number }
 {
     if !minus {
         Ok(number)
@@ -97,7 +97,7 @@ fn keep(minus: bool, number: u64) -> Result<u64, TnsKind>
 /// The value that a word stands for, modulo 2^64: an optional sign, a decimal, and optionally a point with zeros.
 #[tactic(auto, using(crate::proofs::ValueLemmas::point_within))]
 pub fn read_value(word: &[u8]) -> Result<u64, TnsKind>
-    ensures { result ≡ value_of word.now }
+    ensures { result ≡ word_value word.now }
 {
     let number = without_sign(word);
     let fraction = fraction_behind(number);

@@ -6,7 +6,7 @@ use Rattle.std.proofs.Common.{arith, sym, ◌∙◌, ap, subst, append_assoc, ap
 use Rattle.std.proofs.lemmas.List.{length-map, get_or-map}
 use Rattle.stream_tokens.specs.Shapes.{Each}
 use Rattle.sam_model.specs.declared.tensors.Written.{Written}
-use Rattle.sam_model.specs.Listing.{LevelInRange, LevelsInRange, ValuesInRange, InRange, place_above, place_of, path_of, listing}
+use Rattle.sam_model.specs.Listing.{LevelInRange, LevelsInRange, ValuesInRange, InRange, place_above, outer_place, path_of, listing}
 use Rattle.stream_model.specs.Grow.{next, longer, path_fibers}
 use Rattle.stream_model.specs.Labels.{last}
 use Rattle.sam_model.proofs.Lists.{Each-always, Each-map}
@@ -126,8 +126,8 @@ module _ (ok : List ℕ → Bool) (sizes : List ℕ) where
 
   -- place q of the last of n levels is under a place of the level above them, whose prefix goes on by its path
   record Leads (k n m q : ℕ) : Type 0 where
-    place : place_of (segs_from k n) q < length (prefixes_at k)
-    path : get_or (prefixes_at k) (place_of (segs_from k n) q) [] ++ path_of (segs_from k n) (crds_from k n) q
+    place : outer_place (segs_from k n) q < length (prefixes_at k)
+    path : get_or (prefixes_at k) (outer_place (segs_from k n) q) [] ++ path_of (segs_from k n) (crds_from k n) q
         ≡ get_or (prefixes_at m) q []
 
   leads : (k n m q : ℕ) → k + n ≡ m → q < length (prefixes_at m) → Leads k n m q
@@ -139,7 +139,7 @@ module _ (ok : List ℕ → Bool) (sizes : List ℕ) where
       }
   leads k (suc n) m q e h =
       let rest = leads (suc k) n m q (omega (arith, e)) h in
-      let place : ℕ = place_of (segs_from (suc k) n) q in
+      let place : ℕ = outer_place (segs_from (suc k) n) q in
       record {
         place = (above_longer k place rest.place).0;
         path = path_on k place (path_of (segs_from (suc k) n) (crds_from (suc k) n) q) rest.place ∙ rest.path;
@@ -153,7 +153,7 @@ module _ (ok : List ℕ → Bool) (sizes : List ℕ) where
   full_path r q h =
       let all = leads 0 r r q (omega arith) h in
       ap (λ (p : List ℕ). p ++ path_of (segs_from 0 r) (crds_from 0 r) q)
-      (sym (only_root (place_of (segs_from 0 r) q) all.place))
+      (sym (only_root (outer_place (segs_from 0 r) q) all.place))
       ∙ all.path
 
   -- ---- the listing

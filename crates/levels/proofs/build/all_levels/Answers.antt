@@ -1,14 +1,14 @@
 -- One level after another.
 use Rattle.std.proofs.Common.{suc, length, sym, arith, ◌∙◌, rules}
 use Rattle.std.proofs.lemmas.List.{length-map}
-use Rattle.levels.specs.Rows.{entry_of, of_rows}
+use Rattle.levels.specs.Rows.{row_entry, of_rows}
 use Rattle.levels.proofs.LoopLemmas.{made-none, made-more}
 use Rattle.levels.proofs.build.all_levels.Goals as goal
 
 pub loop-place-init : goal.loop-place-init
 loop-place-init c =
     let made = made-none (of_rows c.args.t.now c.args.rows.now) c.new-levels.result.items c.in_ok-at.at.count c.in_ok-at.at.ranks.items
-    c.new-levels.ensures.items c.in_ok-at.ensures.one c.in_ok-at.ensures.ranked (c.in_ok-at.ensures.all ∙ sym (length-map c.args.rows.now (entry_of (length c.args.t.now.order)))) in
+    c.new-levels.ensures.items c.in_ok-at.ensures.one c.in_ok-at.ensures.ranked (c.in_ok-at.ensures.all ∙ sym (length-map c.args.rows.now (row_entry (length c.args.t.now.order)))) in
     record { children = made.children; counts = made.counts; placed = made.placed; few = made.few }
 
 pub loop-place-preserved : goal.loop-place-preserved

@@ -5,7 +5,7 @@ use Rattle.std.proofs.lemmas.List.{length-map}
 use Rattle.sam_model.specs.Tensors.{stored_as}
 use Rattle.levels.specs.declared.rows.Row.{Row}
 use Rattle.levels.specs.Placed.{InOrder}
-use Rattle.levels.specs.Rows.{entry_of, of_rows}
+use Rattle.levels.specs.Rows.{row_entry, of_rows}
 use Rattle.levels.proofs.ConditionLemmas.{storable, matches}
 use Rattle.levels.proofs.FinalLemmas.{placed-length, made-prefixes, made-ranked}
 use Rattle.levels.proofs.storage.Storage.build.Goals as goal
@@ -22,7 +22,7 @@ all_levels-requires-clause-storable c = storable c.args.t.now c.requires.tensor
 pub values_at-requires : goal.values_at-requires
 values_at-requires c = record {
   all = placed-length (of_rows c.args.t.now c.as_slice-rows.result.now) (length c.args.t.now.order) c.in_ok-levels.at.count c.in_ok-levels.at.ranks.items c.in_ok-levels.ensures.placed
-      ∙ length-map c.as_slice-rows.result.now (entry_of (length c.args.t.now.order));
+      ∙ length-map c.as_slice-rows.result.now (row_entry (length c.args.t.now.order));
   inside = c.in_ok-levels.ensures.placed.ranked;
 }
 
