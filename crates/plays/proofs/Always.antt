@@ -1,12 +1,15 @@
 -- What holds of each state that a play reaches.
-use Rattle.std.specs.Prelude.{◌≡◌, ℕ, suc, ◌+◌, ◌<◌, ◌≤◌, Bool, true, false, cond, List, [], ◌∷◌, ◌++◌, length, slice_get, Option, Some, None}
+use Rattle.std.specs.Prelude.{◌≡◌, ℕ, suc, ◌+◌, ◌<◌, ◌≤◌, Bool, true, false, cond, List, [], ◌∷◌, ◌++◌, length}
+use Rattle.std.specs.Prelude.{slice_get, Option, Some, None}
 use Rattle.std.proofs.Common.{arith, refl, sym, ◌∙◌, ap, subst, length-append, inl, inr}
 use Rattle.std.proofs.lemmas.Bool.{cases_eq, cases_lt, ltb-true}
 use Rattle.std.proofs.lemmas.Option.{slice_get_within}
 use Rattle.stream_tokens.specs.declared.Token.{Token}
 use Rattle.block_core.specs.Move.{Move, Taking, Putting}
-use Rattle.plays.specs.Net.{Net, Rooms, State, Wired, WithinBounds, WithinLimit, Reached, PlaysTo, raise, sent, got, waiting, has_room, can_move, can, turn, play, start}
-use Rattle.plays.proofs.Event.{raise_here, raise_there, by_one, sent_put, sent_put_there, got_put, got_take, got_take_there, sent_take}
+use Rattle.plays.specs.Net.{Net, Rooms, State, Wired, WithinBounds, WithinLimit, Reached, PlaysTo, raise, sent, got}
+use Rattle.plays.specs.Net.{waiting, has_room, can_move, can, turn, play, start}
+use Rattle.plays.proofs.Event.{raise_here, raise_there, by_one, sent_put, sent_put_there, got_put, got_take}
+use Rattle.plays.proofs.Event.{got_take_there, sent_take}
 
 -- ---- turns and plays
 

@@ -6,7 +6,8 @@ use Rattle.std.proofs.lemmas.Option.{slice_get-get_or}
 use Rattle.block_core.specs.Move.{Move, Taking, Putting, takes, puts}
 use Rattle.stream_tokens.specs.declared.Token.TheVariants.{Done}
 use Rattle.plays.specs.Net.{Net, State, Wired, Finished, sum_below, raise, start, stream_on, sent, got}
-use Rattle.plays.proofs.Event.{raise_here, raise_there, sent_put, sent_put_there, got_put, got_take, got_take_there, sent_take}
+use Rattle.plays.proofs.Event.{raise_here, raise_there, sent_put, sent_put_there, got_put, got_take, got_take_there}
+use Rattle.plays.proofs.Event.{sent_take}
 use Rattle.plays.proofs.Sums.{sum_same, sum_one_more, raise_sum, sum_zero, sum_double}
 use Rattle.plays.proofs.Finishing.{all_sent, all_got}
 

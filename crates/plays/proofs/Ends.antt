@@ -3,7 +3,8 @@ use Rattle.std.specs.Prelude.{◌≡◌, ℕ, zero, suc, ◌+◌, ◌<◌, ◌�
 use Rattle.std.proofs.Common.{arith, refl, sym, ap, subst, ◌⊎◌, inl, inr}
 use Rattle.std.proofs.lemmas.Bool.{cases_eq}
 use Rattle.std.proofs.lemmas.Option.{slice_get_past}
-use Rattle.plays.specs.Net.{Net, Rooms, State, Wired, Stuck, Finished, Reached, Suffices, NoMore, AtMost, all_channels, sum_below, raise, can_move, can, start}
+use Rattle.plays.specs.Net.{Net, Rooms, State, Wired, Stuck, Finished, Reached, Suffices, NoMore, AtMost, all_channels}
+use Rattle.plays.specs.Net.{sum_below, raise, can_move, can, start}
 use Rattle.plays.proofs.Sums.{raise_sum, sum_at_most}
 use Rattle.plays.proofs.Always.{always-kept, start_reached, event_reached, in_net}
 use Rattle.plays.proofs.Passed.{never-passed}

@@ -1,11 +1,13 @@
 -- Plays of a net that leads forwards finish where each channel has room for its whole stream.
-use Rattle.std.specs.Prelude.{◌≡◌, ℕ, zero, suc, ◌<◌, true, List, [], ◌∷◌, ◌++◌, length, take, drop, slice_get, Option, Some, None}
+use Rattle.std.specs.Prelude.{◌≡◌, ℕ, zero, suc, ◌<◌, true, List, [], ◌∷◌, ◌++◌, length, take, drop, slice_get, Option}
+use Rattle.std.specs.Prelude.{Some, None}
 use Rattle.std.proofs.Common.{arith, refl, sym, ◌∙◌, ap, length-append, inl, inr}
 use Rattle.std.proofs.Math.Seq.{take-length}
 use Rattle.std.proofs.lemmas.Bool.{cases_lt, lt-ltb, both_ways}
 use Rattle.stream_tokens.specs.declared.Token.{Token}
 use Rattle.block_core.specs.Move.{Move, Taking, Putting, takes, puts}
-use Rattle.plays.specs.Net.{Net, Rooms, State, Wired, WithinBounds, Stuck, Finished, Reached, AtMost, Forwards, WholeRoom, stream_on, sent, got, waiting, has_room, can_move, can, raise}
+use Rattle.plays.specs.Net.{Net, Rooms, State, Wired, WithinBounds, Stuck, Finished, Reached, AtMost, Forwards}
+use Rattle.plays.specs.Net.{WholeRoom, stream_on, sent, got, waiting, has_room, can_move, can, raise}
 use Rattle.plays.proofs.Event.{sent_put}
 use Rattle.plays.proofs.Waiting.{sent_whole, next_of_whole}
 use Rattle.plays.proofs.Always.{always-kept}

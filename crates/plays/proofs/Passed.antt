@@ -2,7 +2,8 @@
 use Rattle.std.specs.Prelude.{◌≡◌, ℕ, ◌≤◌, true, length, slice_get, Option, Some, None}
 use Rattle.std.proofs.Common.{arith, refl, sym, ◌∙◌, ap, subst, inl, inr}
 use Rattle.std.proofs.lemmas.Bool.{cases_lt, ltb-true, lt-ltb, both_ways}
-use Rattle.plays.specs.Net.{Net, Rooms, State, Wired, Stuck, Reached, AtMost, NoMore, raise, sent, got, waiting, has_room, can_move, can}
+use Rattle.plays.specs.Net.{Net, Rooms, State, Wired, Stuck, Reached, AtMost, NoMore, raise, sent, got, waiting}
+use Rattle.plays.specs.Net.{has_room, can_move, can}
 use Rattle.plays.proofs.Moves.{takes_longer, puts_longer}
 use Rattle.plays.proofs.Event.{raise_here, raise_there, by_one}
 use Rattle.plays.proofs.Always.{Possible, may_take, may_put, possible, in_net, reached_keeps}

@@ -1,5 +1,6 @@
 -- Tokens taken from one port, and another put for each.
-use Rattle.std.specs.Prelude.{◌≡◌, ◌<◌, ◌≤◌, ℕ, zero, suc, ◌+◌, ◌-◌, ◌^◌, min, false, not, List, [], ◌∷◌, ◌++◌, length, take, drop, set, slice_get, get_or, Some, refl}
+use Rattle.std.specs.Prelude.{◌≡◌, ◌<◌, ◌≤◌, ℕ, zero, suc, ◌+◌, ◌-◌, ◌^◌, min, false, not, List, [], ◌∷◌, ◌++◌, length}
+use Rattle.std.specs.Prelude.{take, drop, set, slice_get, get_or, Some, refl}
 use Rattle.std.proofs.Common.{arith, sym, ◌∙◌, ap, subst, append-nil, append_assoc}
 use Rattle.std.proofs.lemmas.List.{length-set}
 use Rattle.std.proofs.lemmas.Option.{slice_get_within}
@@ -12,10 +13,12 @@ use Rattle.block_core.proofs.Pouring.{at-place, drop-twice}
 use Rattle.plays.specs.Net.{Net, State, has_room}
 use Rattle.plays.specs.Held.{Queued}
 use Rattle.plays.specs.Told.{Tapped, HasLists, one_told}
-use Rattle.plays.specs.Rest.{BlockEnds, no_queue, in_queue, first_at, waits_at, FedAt, MadeAt, SameEnds, MayRelayOne, RelayedTo}
+use Rattle.plays.specs.Rest.{refilled, BlockEnds, no_queue, in_queue, first_at, waits_at, FedAt, MadeAt, SameEnds}
+use Rattle.plays.specs.Rest.{MayRelayOne, RelayedTo}
 use Rattle.plays.proofs.Lists.{same_some, some_in, get_set_here, get_set_there}
 use Rattle.plays.proofs.Tellings.{lists_put, lists_fewer}
-use Rattle.plays.proofs.Rests.{made_none, made_then, fed_made, next_at, input_port, input_queue, some_read, read_some, popped, pushed, made_take, made_put, has_lists_prop}
+use Rattle.plays.proofs.Rests.{made_none, made_then, fed_made, next_at, input_port, input_queue, some_read, read_some}
+use Rattle.plays.proofs.Rests.{popped, pushed, made_take, made_put, has_lists_prop}
 
 -- ---- a token taken and another put for it
 
@@ -76,16 +79,16 @@ pub made_relay : (e : BlockEnds) (p q : ℕ) (u t : Token) (qs1 qs2 : List Queue
     → slice_get e.queues (get_or e.outs q 0) ≡ Some q2 → not (has_room q2.room (length q2.tokens)) ≡ false
     → qs1 ≡ set e.queues (get_or e.outs q 0) (pushed q2 t) → qs2 ≡ set qs1 (get_or e.ins p 0) (popped (in_queue e p))
     → told ≡ one_told (get_or e.outs q 0) t e.told → n1 ≡ min (e.moves + 1) (2 ^ 64 - 1) → n ≡ min (n1 + 1) (2 ^ 64 - 1)
-    → MadeAt e (Taking p u ∷ Putting q t ∷ []) (record { queues = qs2; told = told; moves = n; block = e.block; ins = e.ins; outs = e.outs })
+    → MadeAt e (Taking p u ∷ Putting q t ∷ []) (refilled e qs2 told n)
 made_relay e p q u t qs1 qs2 told n1 n q2 first other l at open_ eq1 eq2 et en1 en =
     let c : ℕ = get_or e.ins p 0 in
     let d : ℕ = get_or e.outs q 0 in
-    let mid : BlockEnds = record { queues = set e.queues c (popped (in_queue e p)); told = e.told; moves = n1; block = e.block; ins = e.ins; outs = e.outs } in
+    let mid : BlockEnds = refilled e (set e.queues c (popped (in_queue e p))) e.told n1 in
     let taken : MadeAt e (Taking p u ∷ []) mid = made_take e p u (set e.queues c (popped (in_queue e p))) n1 first l refl en1 in
     let still : slice_get mid.queues d ≡ Some q2 = get_set_there e.queues c d (popped (in_queue e p)) (λ z. other (sym z)) ∙ at in
     let swapped : qs2 ≡ set mid.queues d (pushed q2 t) =
     eq2 ∙ ap (λ z. set z c (popped (in_queue e p))) eq1 ∙ set_apart e.queues c d (pushed q2 t) (popped (in_queue e p)) other in
-    made_then e mid (record { queues = qs2; told = told; moves = n; block = e.block; ins = e.ins; outs = e.outs }) (Taking p u ∷ []) (Putting q t ∷ []) taken
+    made_then e mid (refilled e qs2 told n) (Taking p u ∷ []) (Putting q t ∷ []) taken
     (made_put mid q t qs2 told n q2 still open_ swapped et en)
 
 pub relay_waits : (e : BlockEnds) (p : ℕ) (qs1 qs2 : List Queued) → get_or e.ins p 0 < length qs1 → qs2 ≡ set qs1 (get_or e.ins p 0) (popped (in_queue e p))
@@ -194,7 +197,7 @@ relayed_still e from to us i f g h made =
 
 pub relay_same : (e : BlockEnds) (p q : ℕ) (t : Token) (qs1 qs2 : List Queued) (told : Tapped) (n : ℕ) (q1 q2 : Queued)
     → qs1 ≡ set e.queues (get_or e.outs q 0) q2 → qs2 ≡ set qs1 (get_or e.ins p 0) q1 → told ≡ one_told (get_or e.outs q 0) t e.told
-    → SameEnds e (record { queues = qs2; told = told; moves = n; block = e.block; ins = e.ins; outs = e.outs })
+    → SameEnds e (refilled e qs2 told n)
 relay_same e p q t qs1 qs2 told n q1 q2 eq1 eq2 et =
     let number : length qs2 ≡ length e.queues =
     ap length eq2 ∙ length-set qs1 (get_or e.ins p 0) q1 ∙ ap length eq1 ∙ length-set e.queues (get_or e.outs q 0) q2 in

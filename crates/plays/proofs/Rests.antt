@@ -1,5 +1,6 @@
 -- Moves of one block, as all but the blocks sees them.
-use Rattle.std.specs.Prelude.{◌≡◌, ◌<◌, ℕ, zero, suc, ◌+◌, ◌-◌, ◌^◌, min, Bool, true, false, not, List, [], ◌∷◌, ◌++◌, length, drop, set, slice_get, get_or, Some, None, refl}
+use Rattle.std.specs.Prelude.{◌≡◌, ◌<◌, ℕ, zero, suc, ◌+◌, ◌-◌, ◌^◌, min, Bool, true, false, not, List, [], ◌∷◌, ◌++◌}
+use Rattle.std.specs.Prelude.{length, drop, set, slice_get, get_or, Some, None, refl}
 use Rattle.std.proofs.Common.{arith, sym, ◌∙◌, ap, subst, append_assoc, length-append, inl, inr}
 use Rattle.std.proofs.lemmas.Bool.{cases_eq}
 use Rattle.std.proofs.lemmas.List.{length-set}
@@ -17,13 +18,16 @@ use Rattle.block_core.proofs.Pouring.{at-place, drop-twice}
 use Rattle.plays.specs.Net.{Net, Rooms, State, Waits, can, raise, got, sum_below, play, has_room}
 use Rattle.plays.specs.Held.{Queued}
 use Rattle.plays.specs.Told.{Tapped, HasLists, Grew, one_told}
-use Rattle.plays.specs.Rest.{BlockEnds, no_queue, in_queue, first_at, waits_at, RestAt, FedAt, AfterMoves, MadeAt, SameEnds, BurstAt, MayBurst}
+use Rattle.plays.specs.Rest.{refilled, ends_at, BlockEnds, no_queue, in_queue, first_at, waits_at, RestAt, FedAt}
+use Rattle.plays.specs.Rest.{AfterMoves, MadeAt, SameEnds, BurstAt, MayBurst}
 use Rattle.plays.proofs.Event.{raise_here, raise_there}
 use Rattle.plays.proofs.Sums.{raise_sum}
 use Rattle.plays.proofs.Always.{event_kept, in_net, play_append, turn_made}
-use Rattle.plays.proofs.Waiting.{waits_take, waits_take_there, waits_put, waits_put_there, sent_whole, got_whole, can_take, can_put}
+use Rattle.plays.proofs.Waiting.{waits_take, waits_take_there, waits_put, waits_put_there, sent_whole, got_whole}
+use Rattle.plays.proofs.Waiting.{can_take, can_put}
 use Rattle.plays.proofs.Lists.{same_some, get_set_here, get_set_there}
-use Rattle.plays.proofs.Tellings.{grew_same, grew_then, told_put, told_take, front_first, front_length, lists_put, lists_fewer, not_full}
+use Rattle.plays.proofs.Tellings.{grew_same, grew_then, told_put, told_take, front_first, front_length, lists_put}
+use Rattle.plays.proofs.Tellings.{lists_fewer, not_full}
 
 -- ---- no move, and moves after moves
 
@@ -48,10 +52,10 @@ same_made e ms f h = record { block = h.block; ins = h.ins; outs = h.outs; numbe
 
 -- what was undone
 pub made_same : (e : BlockEnds) (qs : List Queued) (told : Tapped) → qs ≡ e.queues → told ≡ e.told
-    → MadeAt e [] (record { queues = qs; told = told; moves = e.moves; block = e.block; ins = e.ins; outs = e.outs })
+    → MadeAt e [] (refilled e qs told e.moves)
 made_same e qs told q t =
-    subst (λ z. MadeAt e [] (record { queues = z; told = told; moves = e.moves; block = e.block; ins = e.ins; outs = e.outs })) (sym q)
-    (subst (λ z. MadeAt e [] (record { queues = e.queues; told = z; moves = e.moves; block = e.block; ins = e.ins; outs = e.outs })) (sym t) (made_none e))
+    subst (λ z. MadeAt e [] (refilled e z told e.moves)) (sym q)
+    (subst (λ z. MadeAt e [] (refilled e e.queues z e.moves)) (sym t) (made_none e))
 
 left_after : (net : Net) (b : ℕ) (s t : State) (xs rest : List Move) → drop (s b) (net.moves b) ≡ xs ++ rest → t b ≡ s b + length xs
     → drop (t b) (net.moves b) ≡ rest
@@ -141,7 +145,7 @@ counted_more n m e = grind (arith)
 
 -- all but the blocks after an event
 abbrev after : BlockEnds → ℕ → Queued → Tapped → BlockEnds
-after e c q told = record { queues = set e.queues c q; told = told; moves = min (e.moves + 1) (2 ^ 64 - 1); block = e.block; ins = e.ins; outs = e.outs }
+after e c q told = refilled e (set e.queues c q) told (min (e.moves + 1) (2 ^ 64 - 1))
 
 moved : (net : Net) (rooms : Rooms) (s : State) (e : BlockEnds) → RestAt net rooms s e
     → (c : ℕ) (q q' : Queued) (told : Tapped)
@@ -213,7 +217,7 @@ popped q = record { tokens = drop 1 q.tokens; room = q.room }
 -- a token is taken away
 pub made_take : (e : BlockEnds) (p : ℕ) (t : Token) (qs : List Queued) (n : ℕ) → first_at e p ≡ Some t
     → get_or e.ins p 0 < length e.queues → qs ≡ set e.queues (get_or e.ins p 0) (popped (in_queue e p)) → n ≡ min (e.moves + 1) (2 ^ 64 - 1)
-    → MadeAt e (Taking p t ∷ []) (record { queues = qs; told = e.told; moves = n; block = e.block; ins = e.ins; outs = e.outs })
+    → MadeAt e (Taking p t ∷ []) (refilled e qs e.told n)
 made_take e p t qs n first lc eq en =
     let q = in_queue e p in
     let c = get_or e.ins p 0 in
@@ -236,9 +240,9 @@ made_take e p t qs n first lc eq en =
           let r : RestAt net rooms (raise e.block s) (after e c (popped q) e.told) =
           moved net rooms s e h c q (popped q) e.told possible at refl waits
           (λ d r ld other old. waits_take_there net s e.block p t d r h.wired move ld (λ z. other (z ∙ sym here)) old) (λ x. x) in
-          let same : after e c (popped q) e.told ≡ record { queues = qs; told = e.told; moves = n; block = e.block; ins = e.ins; outs = e.outs } =
-          ap (λ z. record { queues = z; told = e.told; moves = min (e.moves + 1) (2 ^ 64 - 1); block = e.block; ins = e.ins; outs = e.outs }) (sym eq)
-          ∙ ap (λ z. record { queues = qs; told = e.told; moves = z; block = e.block; ins = e.ins; outs = e.outs }) (sym en) in
+          let same : after e c (popped q) e.told ≡ refilled e qs e.told n =
+          ap (λ z. refilled e z e.told (min (e.moves + 1) (2 ^ 64 - 1))) (sym eq)
+          ∙ ap (λ z. refilled e qs e.told z) (sym en) in
           (raise e.block s, raised net rooms s e.block possible, subst (RestAt net rooms (raise e.block s)) same r, told_take net s e.block p t e.told move);
     }
 
@@ -249,7 +253,7 @@ pushed q t = record { tokens = q.tokens ++ t ∷ []; room = q.room }
 pub made_put : (e : BlockEnds) (p : ℕ) (t : Token) (qs : List Queued) (told : Tapped) (n : ℕ) (q : Queued)
     → slice_get e.queues (get_or e.outs p 0) ≡ Some q → not (has_room q.room (length q.tokens)) ≡ false
     → qs ≡ set e.queues (get_or e.outs p 0) (pushed q t) → told ≡ one_told (get_or e.outs p 0) t e.told → n ≡ min (e.moves + 1) (2 ^ 64 - 1)
-    → MadeAt e (Putting p t ∷ []) (record { queues = qs; told = told; moves = n; block = e.block; ins = e.ins; outs = e.outs })
+    → MadeAt e (Putting p t ∷ []) (refilled e qs told n)
 made_put e p t qs told n q at open_ eq et en =
     let c = get_or e.outs p 0 in
     let number : length qs ≡ length e.queues = ap length eq ∙ length-set e.queues c (pushed q t) in
@@ -273,9 +277,9 @@ made_put e p t qs told n q at open_ eq et en =
           moved net rooms s e h c q (pushed q t) told possible at refl waits
           (λ d r ld other old. waits_put_there net s e.block p t d r h.wired move ld (λ z. other (z ∙ sym here)) old)
           (lists_put (length e.queues) c t e.told told et) in
-          let same : after e c (pushed q t) told ≡ record { queues = qs; told = told; moves = n; block = e.block; ins = e.ins; outs = e.outs } =
-          ap (λ z. record { queues = z; told = told; moves = min (e.moves + 1) (2 ^ 64 - 1); block = e.block; ins = e.ins; outs = e.outs }) (sym eq)
-          ∙ ap (λ z. record { queues = qs; told = told; moves = z; block = e.block; ins = e.ins; outs = e.outs }) (sym en) in
+          let same : after e c (pushed q t) told ≡ refilled e qs told n =
+          ap (λ z. refilled e z told (min (e.moves + 1) (2 ^ 64 - 1))) (sym eq)
+          ∙ ap (λ z. refilled e qs told z) (sym en) in
           let lists : HasLists net.channels e.told = subst (λ k. HasLists k e.told) h.queues_number h.lists in
           let grew : Grew net s (raise e.block s) e.told told =
           subst (Grew net s (raise e.block s) e.told) (ap (λ k. one_told k t e.told) (sym here) ∙ sym et) (told_put net s e.block p t e.told h.wired move lists) in
@@ -295,21 +299,21 @@ put_lists e p t may =
 -- ---- at the end of a loan
 
 pub ends_same : (e f : BlockEnds) (qs : List Queued) (told : Tapped) → SameEnds e f → qs ≡ f.queues → told ≡ f.told
-    → f ≡ record { queues = qs; told = told; moves = f.moves; block = e.block; ins = e.ins; outs = e.outs }
+    → f ≡ refilled e qs told f.moves
 ends_same e f qs told h q t =
-    ap (λ z. record { queues = z; told = f.told; moves = f.moves; block = f.block; ins = f.ins; outs = f.outs }) (sym q)
-    ∙ ap (λ z. record { queues = qs; told = z; moves = f.moves; block = f.block; ins = f.ins; outs = f.outs }) (sym t)
-    ∙ ap (λ z. record { queues = qs; told = told; moves = f.moves; block = z; ins = f.ins; outs = f.outs }) h.block
-    ∙ ap (λ z. record { queues = qs; told = told; moves = f.moves; block = e.block; ins = z; outs = f.outs }) h.ins
-    ∙ ap (λ z. record { queues = qs; told = told; moves = f.moves; block = e.block; ins = e.ins; outs = z }) h.outs
+    ap (λ z. refilled f z f.told f.moves) (sym q)
+    ∙ ap (λ z. refilled f qs z f.moves) (sym t)
+    ∙ ap (λ z. ends_at qs told f.moves z f.ins f.outs) h.block
+    ∙ ap (λ z. ends_at qs told f.moves e.block z f.outs) h.ins
+    ∙ ap (λ z. ends_at qs told f.moves e.block e.ins z) h.outs
 
 pub burst_at : {B : Type 0} (step : Ghosts B) (blocks : List B) (e f : BlockEnds) (x y : B) (went : Bool)
     (qs : List Queued) (told : Tapped) → slice_get blocks e.block ≡ Some x → step.kind y ≡ step.kind x
     → SameEnds e f → qs ≡ f.queues → told ≡ f.told → Poured step.kind step.stands FedAt MadeAt x e y f went
-    → BurstAt step blocks e (set blocks e.block y) (record { queues = qs; told = told; moves = f.moves; block = e.block; ins = e.ins; outs = e.outs }) went
+    → BurstAt step blocks e (set blocks e.block y) (refilled e qs told f.moves) went
 burst_at step blocks e f x y went qs told at same h q t poured z az =
     let xz : x ≡ z = same_some x z (sym at ∙ az) in
-    let g : BlockEnds = record { queues = qs; told = told; moves = f.moves; block = e.block; ins = e.ins; outs = e.outs } in
+    let g : BlockEnds = refilled e qs told f.moves in
     let there : Poured step.kind step.stands FedAt MadeAt x e y g went = subst (λ w. Poured step.kind step.stands FedAt MadeAt x e y w went) (ends_same e f qs told h q t) poured in
     (y, refl, same ∙ ap step.kind xz, subst (λ w. Poured step.kind step.stands FedAt MadeAt w e y g went) xz there)
 
@@ -320,5 +324,5 @@ may_burst step blocks e x at may = ∥∥₁_map may (λ r.
     subst (λ z. (s : Streams) × (n : ℕ) × step.stands z s n × FedAt e (drop n (moves (step.kind z) s))) same (r.2, r.3, r.4, r.5))
 
 pub same_closed : (e f : BlockEnds) (qs : List Queued) (told : Tapped) → SameEnds e f → qs ≡ f.queues → told ≡ f.told
-    → SameEnds e (record { queues = qs; told = told; moves = f.moves; block = e.block; ins = e.ins; outs = e.outs })
+    → SameEnds e (refilled e qs told f.moves)
 same_closed e f qs told h q t = subst (SameEnds e) (ends_same e f qs told h q t) h

@@ -1,11 +1,14 @@
 -- Worked cases: a net of two blocks and two channels that stalls where a channel may hold one token, and finishes where it
 -- may hold two.
-use Rattle.std.specs.Prelude.{◌≡◌, ℕ, zero, suc, ◌-◌, ◌<◌, ◌≤◌, ◌*◌, true, false, List, [], ◌∷◌, length, slice_get, Some, None, refl}
+use Rattle.std.specs.Prelude.{◌≡◌, ℕ, zero, suc, ◌-◌, ◌<◌, ◌≤◌, ◌*◌, true, false, List, [], ◌∷◌, length, slice_get}
+use Rattle.std.specs.Prelude.{Some, None, refl}
 use Rattle.std.proofs.Common.{arith}
 use Rattle.stream_tokens.specs.declared.Token.{Token}
 use Rattle.stream_tokens.specs.declared.Token.TheVariants.{Item, Done}
 use Rattle.block_core.specs.Move.{Move, Taking, Putting}
-use Rattle.plays.specs.Net.{Net, State, Wired, WithinBounds, Stuck, Finished, Reached, Suffices, Forwards, WholeRoom, WithinLimit, Waits, NoMore, all_channels, sum_below, raise, turn, stream_on, sent, got, waiting, queue, has_room, can, play, start}
+use Rattle.plays.specs.Net.{Net, State, Wired, WithinBounds, Stuck, Finished, Reached, Suffices, Forwards, WholeRoom}
+use Rattle.plays.specs.Net.{WithinLimit, Waits, NoMore, all_channels, sum_below, raise, turn, stream_on, sent, got}
+use Rattle.plays.specs.Net.{waiting, queue, has_room, can, play, start}
 use Rattle.plays.proofs.Always.{always-kept}
 use Rattle.plays.proofs.Ends.{more-room}
 

@@ -1,6 +1,7 @@
 -- The laws of plays.
 use Rattle.std.specs.Prelude.{◌≡◌, ℕ, ◌+◌, ◌*◌, ◌<◌, ◌≤◌, length}
-use Rattle.plays.specs.Net.{Net, Rooms, State, Wired, Stuck, Finished, Reached, PlaysTo, NoMore, WithinBounds, Forwards, WholeRoom, Suffices, sum_below, sent, got, stream_on}
+use Rattle.plays.specs.Net.{Net, Rooms, State, Wired, Stuck, Finished, Reached, PlaysTo, NoMore, WithinBounds, Forwards}
+use Rattle.plays.specs.Net.{WholeRoom, Suffices, sum_below, sent, got, stream_on}
 
 -- A stuck state is never passed under limits that are at most as large: no block makes more moves than there.
 abbrev pub NeverPassed : Type 0

@@ -1,5 +1,6 @@
 -- A net of blocks and channels, its states, its events and its plays.
-use Rattle.std.specs.Prelude.{◌≡◌, ℕ, zero, suc, ◌+◌, ◌-◌, ◌<◌, ◌≤◌, Bool, true, false, cond, eqb, nat_lt, List, [], ◌∷◌, ◌++◌, length, take, slice_get, slice_range, Option, Some, None}
+use Rattle.std.specs.Prelude.{◌≡◌, ℕ, zero, suc, ◌+◌, ◌-◌, ◌<◌, ◌≤◌, Bool, true, false, cond, eqb, nat_lt, List, []}
+use Rattle.std.specs.Prelude.{◌∷◌, ◌++◌, length, take, slice_get, slice_range, Option, Some, None}
 use Rattle.stream_tokens.specs.declared.Token.{Token}
 use Rattle.block_core.specs.Move.{Move, Taking, Putting, takes, puts}
 

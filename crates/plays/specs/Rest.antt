@@ -1,5 +1,6 @@
 -- All of a machine but its blocks, as one block's burst sees it.
-use Rattle.std.specs.Prelude.{◌≡◌, ◌<◌, ℕ, ◌+◌, ◌-◌, ◌^◌, min, List, [], ◌∷◌, ◌++◌, Bool, length, take, drop, set, slice_get, get_or, Option, Some, None}
+use Rattle.std.specs.Prelude.{◌≡◌, ◌<◌, ℕ, ◌+◌, ◌-◌, ◌^◌, min, List, [], ◌∷◌, ◌++◌, Bool, length, take, drop, set}
+use Rattle.std.specs.Prelude.{slice_get, get_or, Option, Some, None}
 use Rattle.stream_tokens.specs.declared.Token.{Token}
 use Rattle.block_core.specs.declared.BlockStep.{Ghosts}
 use Rattle.block_core.specs.Move.{Move, Taking, Putting}
@@ -19,6 +20,14 @@ pub record BlockEnds : Type 0 where
   pub block : ℕ
   pub ins : List ℕ
   pub outs : List ℕ
+
+abbrev pub ends_at : List Queued → Tapped → ℕ → ℕ → List ℕ → List ℕ → BlockEnds
+ends_at queues told moves block ins outs =
+    record { queues = queues; told = told; moves = moves; block = block; ins = ins; outs = outs }
+
+-- the same ends with other queues, told so far and number of events
+abbrev pub refilled : BlockEnds → List Queued → Tapped → ℕ → BlockEnds
+refilled e queues told moves = ends_at queues told moves e.block e.ins e.outs
 
 abbrev pub no_queue : Queued
 no_queue = record { tokens = []; room = None }

@@ -1,5 +1,6 @@
 -- How many moves the blocks of a machine make in all.
-use Rattle.std.specs.Prelude.{◌≡◌, ◌<◌, ℕ, zero, suc, ◌+◌, true, false, cond, eqb, List, [], ◌∷◌, length, slice_get, get_or, Option, Some, refl}
+use Rattle.std.specs.Prelude.{◌≡◌, ◌<◌, ℕ, zero, suc, ◌+◌, true, false, cond, eqb, List, [], ◌∷◌, length, slice_get}
+use Rattle.std.specs.Prelude.{get_or, Option, Some, refl}
 use Rattle.std.proofs.Common.{arith, sym, ◌∙◌, ap, subst, inl, inr}
 use Rattle.std.proofs.lemmas.Bool.{eq-eqb, ne_eqb, cases_eq}
 use mathlib.Core.List.{map}
@@ -19,7 +20,8 @@ use Rattle.plays.specs.Held.{Table, at_port, Held}
 use Rattle.plays.proofs.Lists.{same_some, some_in}
 use Rattle.plays.proofs.Sums.{sum_same}
 use Rattle.stepper.specs.AtState.{AtState}
-use Rattle.stepper.specs.AllMoves.{last_place, is_among, putter_of, inputs_from, read_stream_after, count_of_moves, kind_at, all_moves}
+use Rattle.stepper.specs.AllMoves.{last_place, is_among, putter_of, inputs_from, read_stream_after, count_of_moves}
+use Rattle.stepper.specs.AllMoves.{kind_at, all_moves}
 
 -- ---- a place that is searched for
 

@@ -1,5 +1,6 @@
 -- From a machine to one block's ends, and back.
-use Rattle.std.specs.Prelude.{◌≡◌, ◌<◌, ◌≤◌, ℕ, zero, suc, ◌+◌, Bool, true, List, [], ◌∷◌, length, take, drop, set, slice_get, get_or, Option, Some, Result, Ok, Err, IfOk, IfErr, false, refl}
+use Rattle.std.specs.Prelude.{◌≡◌, ◌<◌, ◌≤◌, ℕ, zero, suc, ◌+◌, Bool, true, List, [], ◌∷◌, length, take, drop, set}
+use Rattle.std.specs.Prelude.{slice_get, get_or, Option, Some, Result, Ok, Err, IfOk, IfErr, false, refl}
 use Rattle.std.proofs.Common.{arith, sym, ◌∙◌, ap, subst, length-drop, inl, inr}
 use Rattle.std.proofs.lemmas.Bool.{cases_eq}
 use Rattle.std.proofs.lemmas.List.{length-set, length-take, take-append-drop}
@@ -18,7 +19,7 @@ use Rattle.graph.specs.Standing.{block_moves}
 use Rattle.plays.specs.Net.{Net, Rooms, State, PlaysTo, sum_below}
 use Rattle.plays.specs.Held.{Queued, Held}
 use Rattle.plays.specs.Told.{Tapped, HasLists, Grew}
-use Rattle.plays.specs.Rest.{RestAt, BurstAt, MayBurst}
+use Rattle.plays.specs.Rest.{ends_at, RestAt, BurstAt, MayBurst}
 use Rattle.stepper.specs.NetOf.{net_of, rooms_of}
 use Rattle.stepper.specs.AtState.{AtState, Somewhere}
 use Rattle.stepper.specs.Bursting.{row_of, block_ends, OnwardsBy}
@@ -91,7 +92,7 @@ module _ {B : Type 0} (step : Ghosts B) (storages : List Ranked) (g : Graph) (ca
   pub burst_at_state : ((x : B) (s : Streams) (n : ℕ) → step.stands x s n → n ≤ length (moves (step.kind x) s))
       → (s : State) (m : Held B) (told : Tapped) (b : ℕ) (went : Bool) (bs : List B) (qs : List Queued) (n : ℕ) (told' : Tapped)
       → b < length m.blocks → HasLists (length m.queues) told
-      → BurstAt step m.blocks (block_ends m told b) bs (record { queues = qs; told = told'; moves = n; block = b; ins = row_of m.routes.ins b; outs = row_of m.routes.outs b }) went
+      → BurstAt step m.blocks (block_ends m told b) bs (ends_at qs told' n b (row_of m.routes.ins b) (row_of m.routes.outs b)) went
       → AtState step storages g caps s m
       → (t : State) × PlaysTo (net_of storages g) (rooms_of caps) s t
       × AtState step storages g caps t (record { blocks = bs; queues = qs; moves = n; routes = m.routes }) × Grew (net_of storages g) s t told told'
@@ -163,7 +164,7 @@ module _ {B : Type 0} (step : Ghosts B) where
   pub burst_onwards : ((x : B) (s : Streams) (n : ℕ) → step.stands x s n → n ≤ length (moves (step.kind x) s))
       → (m : Held B) (told : Tapped) (b : ℕ) (went : Bool) (bs : List B) (qs : List Queued) (n : ℕ) (told' : Tapped)
       → b < length m.blocks → HasLists (length m.queues) told
-      → BurstAt step m.blocks (block_ends m told b) bs (record { queues = qs; told = told'; moves = n; block = b; ins = row_of m.routes.ins b; outs = row_of m.routes.outs b }) went
+      → BurstAt step m.blocks (block_ends m told b) bs (ends_at qs told' n b (row_of m.routes.ins b) (row_of m.routes.outs b)) went
       → OnwardsBy step m told (record { blocks = bs; queues = qs; moves = n; routes = m.routes }) told' went
   burst_onwards within m told b went bs qs n told' lb lists burst storages g caps s h =
       burst_at_state step storages g caps within s m told b went bs qs n told' lb lists burst h
@@ -191,22 +192,22 @@ module _ {B : Type 0} (step : Ghosts B) where
   -- the same with the rows as they were read
   pub may_rows : (m : Held B) (told : Tapped) (b : ℕ) (ins outs : List ℕ) → ins ≡ row_of m.routes.ins b → outs ≡ row_of m.routes.outs b
       → b < length m.blocks → HasLists (length m.queues) told
-      → ∥ (Somewhere step m) ∥₁ → MayBurst step m.blocks (record { queues = m.queues; told = told; moves = m.moves; block = b; ins = ins; outs = outs })
+      → ∥ (Somewhere step m) ∥₁ → MayBurst step m.blocks (ends_at m.queues told m.moves b ins outs)
   may_rows m told b ins outs i o l lists sits =
-      subst (λ z. MayBurst step m.blocks (record { queues = m.queues; told = told; moves = m.moves; block = b; ins = z; outs = outs })) (sym i)
-      (subst (λ z. MayBurst step m.blocks (record { queues = m.queues; told = told; moves = m.moves; block = b; ins = row_of m.routes.ins b; outs = z })) (sym o)
+      subst (λ z. MayBurst step m.blocks (ends_at m.queues told m.moves b z outs)) (sym i)
+      (subst (λ z. MayBurst step m.blocks (ends_at m.queues told m.moves b (row_of m.routes.ins b) z)) (sym o)
       (may_of m told b l lists sits))
 
   pub onwards_rows : ((x : B) (s : Streams) (n : ℕ) → step.stands x s n → n ≤ length (moves (step.kind x) s))
       → (m : Held B) (told : Tapped) (b : ℕ) (ins outs : List ℕ) → ins ≡ row_of m.routes.ins b → outs ≡ row_of m.routes.outs b
       → (went : Bool) (bs : List B) (qs : List Queued) (n : ℕ) (told' : Tapped)
       → b < length m.blocks → HasLists (length m.queues) told
-      → BurstAt step m.blocks (record { queues = m.queues; told = told; moves = m.moves; block = b; ins = ins; outs = outs }) bs (record { queues = qs; told = told'; moves = n; block = b; ins = ins; outs = outs }) went
+      → BurstAt step m.blocks (ends_at m.queues told m.moves b ins outs) bs (ends_at qs told' n b ins outs) went
       → OnwardsBy step m told (record { blocks = bs; queues = qs; moves = n; routes = m.routes }) told' went
   onwards_rows within m told b ins outs i o went bs qs n told' lb lists h =
       burst_onwards within m told b went bs qs n told' lb lists
-      (subst (λ z. BurstAt step m.blocks (record { queues = m.queues; told = told; moves = m.moves; block = b; ins = z; outs = row_of m.routes.outs b }) bs (record { queues = qs; told = told'; moves = n; block = b; ins = z; outs = row_of m.routes.outs b }) went) i
-      (subst (λ z. BurstAt step m.blocks (record { queues = m.queues; told = told; moves = m.moves; block = b; ins = ins; outs = z }) bs (record { queues = qs; told = told'; moves = n; block = b; ins = ins; outs = z }) went) o h))
+      (subst (λ z. BurstAt step m.blocks (ends_at m.queues told m.moves b z (row_of m.routes.outs b)) bs (ends_at qs told' n b z (row_of m.routes.outs b)) went) i
+      (subst (λ z. BurstAt step m.blocks (ends_at m.queues told m.moves b ins z) bs (ends_at qs told' n b ins z) went) o h))
 
   pub sits_on : (m : Held B) (told : Tapped) (m' : Held B) (told' : Tapped) (went : Bool)
       → OnwardsBy step m told m' told' went → ∥ (Somewhere step m) ∥₁ → ∥ (Somewhere step m') ∥₁

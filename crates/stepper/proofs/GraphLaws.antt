@@ -13,7 +13,8 @@ use Rattle.plays.proofs.Ends.{one-end, some-end, more-room}
 use Rattle.plays.proofs.Finishing.{all_sent, no-stall}
 use Rattle.plays.proofs.Count.{twice-each}
 use Rattle.stepper.specs.NetOf.{net_of, rooms_of}
-use Rattle.stepper.specs.Laws.{GraphsAreWired, AlwaysPartWay, QueuesArePart, OneStuckState, MoreRoomNeverHurts, RoomSuffices, MoveCount, AllIsSent}
+use Rattle.stepper.specs.Laws.{GraphsAreWired, AlwaysPartWay, QueuesArePart, OneStuckState, MoreRoomNeverHurts}
+use Rattle.stepper.specs.Laws.{RoomSuffices, MoveCount, AllIsSent}
 use Rattle.stepper.proofs.Wires.{wired, put_whole}
 
 pub graphs-are-wired : GraphsAreWired

@@ -1,5 +1,6 @@
 -- A block takes a token.
-use Rattle.std.specs.Prelude.{◌≡◌, ◌<◌, ℕ, ◌+◌, ◌-◌, ◌^◌, min, true, false, cond, nat_lt, List, [], ◌∷◌, length, drop, set, slice_get, get_or, Some, None, refl}
+use Rattle.std.specs.Prelude.{◌≡◌, ◌<◌, ℕ, ◌+◌, ◌-◌, ◌^◌, min, true, false, cond, nat_lt, List, [], ◌∷◌, length, drop}
+use Rattle.std.specs.Prelude.{set, slice_get, get_or, Some, None, refl}
 use Rattle.std.proofs.Common.{arith, sym, ◌∙◌, ap, subst}
 use Rattle.std.proofs.Math.Logic.{∥∥₁_elim, ∥∥₁_map}
 use Rattle.std.specs.Coded.{le_prop}

@@ -6,7 +6,7 @@ use Rattle.graph.specs.declared.graphs.Graph.{Graph}
 use Rattle.plays.specs.Net.{State, PlaysTo, sum_below}
 use Rattle.plays.specs.Held.{Table, Held}
 use Rattle.plays.specs.Told.{Tapped, Grew}
-use Rattle.plays.specs.Rest.{BlockEnds}
+use Rattle.plays.specs.Rest.{ends_at, BlockEnds}
 use Rattle.stepper.specs.NetOf.{net_of, rooms_of}
 use Rattle.stepper.specs.AtState.{AtState}
 
@@ -15,7 +15,7 @@ abbrev pub row_of : Table → ℕ → List ℕ
 row_of t b = drop (get_or t.first b 0) t.channels
 
 abbrev pub block_ends : {B : Type 0} → Held B → Tapped → ℕ → BlockEnds
-block_ends m told b = record { queues = m.queues; told = told; moves = m.moves; block = b; ins = row_of m.routes.ins b; outs = row_of m.routes.outs b }
+block_ends m told b = ends_at m.queues told m.moves b (row_of m.routes.ins b) (row_of m.routes.outs b)
 
 -- Wherever the machine stood, events lead to where it stands, at least one where the flag says so; a tap was given what was put.
 abbrev pub OnwardsBy : {B : Type 0} → Ghosts B

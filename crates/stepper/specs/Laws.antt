@@ -5,7 +5,8 @@ use Rattle.sam_model.specs.Children.{Ranked}
 use Rattle.graph.specs.declared.graphs.Graph.{Graph}
 use Rattle.graph.specs.Wiring.{WellFormed}
 use Rattle.graph.specs.WholeStreams.{whole_stream, Consistent}
-use Rattle.plays.specs.Net.{State, Wired, Stuck, Finished, Reached, AtMost, NoMore, WithinLimit, Waits, sum_below, sent, got, waiting}
+use Rattle.plays.specs.Net.{State, Wired, Stuck, Finished, Reached, AtMost, NoMore, WithinLimit, Waits, sum_below, sent}
+use Rattle.plays.specs.Net.{got, waiting}
 use Rattle.stepper.specs.NetOf.{net_of, rooms_of}
 
 -- The net of a well formed graph that the stored tensors fit is one to which the laws of plays apply.

@@ -1,5 +1,6 @@
 -- What one step does.
-use Rattle.std.specs.Prelude.{◌≡◌, ℕ, List, Bool, true, false, cond, nat_lt, length, drop, slice_get, Option, Some, None, IsSome}
+use Rattle.std.specs.Prelude.{◌≡◌, ℕ, List, Bool, true, false, cond, nat_lt, length, drop, slice_get, Option, Some}
+use Rattle.std.specs.Prelude.{None, IsSome}
 use Rattle.sam_model.specs.Children.{Ranked}
 use Rattle.block_core.specs.declared.BlockStep.{Ghosts}
 use Rattle.block_core.specs.declared.Wish.{Wish}

@@ -4,7 +4,7 @@ ghost use Rattle.std.specs.Prelude.{◌≡◌, ◌<◌, ◌+◌, ◌-◌, ◌^�
 ghost use Rattle.std.proofs.Common.{◌∙◌};
 ghost use Rattle.stream_tokens.specs.declared.Token.{Token as Tok};
 ghost use Rattle.block_core.specs.Move.{Taking, Putting};
-ghost use Rattle.plays.specs.Rest.{first_at, MayRelayOne, waits_at, FedAt, SameEnds, MadeAt, BurstAt, MayBurst};
+ghost use Rattle.plays.specs.Rest.{ends_at, first_at, MayRelayOne, waits_at, FedAt, SameEnds, MadeAt, BurstAt, MayBurst};
 ghost use Rattle.stepper.specs.EndsView.{seen};
 ghost use Rattle.plays.proofs.Rests.{same_none, same_then, made_none, made_then, fed_made, comes};
 
@@ -149,11 +149,11 @@ pub(crate) fn burst_at<B: BlockStep, T: Tap>(
     long: usize,
 ) -> Result<bool, AllocError>
     requires within { block < length blocks.old.items }
-    requires may { MayBurst B.BlockStep blocks.old.items (record { queues = queues.old.items; told = T.told tap.old; moves = moves.old; block = block; ins = ins.now; outs = outs.now }) }
+    requires may { MayBurst B.BlockStep blocks.old.items (ends_at queues.old.items (T.told tap.old) moves.old block ins.now outs.now) }
     ensures same_length { length blocks.new.items ≡ length blocks.old.items }
-    ensures same_ends { SameEnds (record { queues = queues.old.items; told = T.told tap.old; moves = moves.old; block = block; ins = ins.now; outs = outs.now }) (record { queues = queues.new.items; told = T.told tap.new; moves = moves.new; block = block; ins = ins.now; outs = outs.now }) }
-    ensures poured { IfOk result (λ went. BurstAt B.BlockStep blocks.old.items (record { queues = queues.old.items; told = T.told tap.old; moves = moves.old; block = block; ins = ins.now; outs = outs.now }) blocks.new.items (record { queues = queues.new.items; told = T.told tap.new; moves = moves.new; block = block; ins = ins.now; outs = outs.now }) went) }
-    ensures refused { IfErr result (λ _. BurstAt B.BlockStep blocks.old.items (record { queues = queues.old.items; told = T.told tap.old; moves = moves.old; block = block; ins = ins.now; outs = outs.now }) blocks.new.items (record { queues = queues.new.items; told = T.told tap.new; moves = moves.new; block = block; ins = ins.now; outs = outs.now }) false) }
+    ensures same_ends { SameEnds (ends_at queues.old.items (T.told tap.old) moves.old block ins.now outs.now) (ends_at queues.new.items (T.told tap.new) moves.new block ins.now outs.now) }
+    ensures poured { IfOk result (λ went. BurstAt B.BlockStep blocks.old.items (ends_at queues.old.items (T.told tap.old) moves.old block ins.now outs.now) blocks.new.items (ends_at queues.new.items (T.told tap.new) moves.new block ins.now outs.now) went) }
+    ensures refused { IfErr result (λ _. BurstAt B.BlockStep blocks.old.items (ends_at queues.old.items (T.told tap.old) moves.old block ins.now outs.now) blocks.new.items (ends_at queues.new.items (T.told tap.new) moves.new block ins.now outs.now) false) }
 {
     let mut ends = Ends {
         queues,

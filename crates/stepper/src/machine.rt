@@ -52,14 +52,14 @@ pub struct Machine<B: BlockStep> {
 
 impl<B: BlockStep> Model for Machine<B> {
     ghost use Rattle.plays.specs.Held.{Held};
-    ghost use Rattle.stepper.specs.Routes.{routes_of};
+    ghost use Rattle.stepper.specs.Routes.{held_of};
     ghost use Rattle.stepper.specs.AtState.{Somewhere};
 
     ghost Value = { Held B };
 
-    ghost view = { λ m. record { blocks = m.blocks.items; queues = m.queues.items; moves = m.moves; routes = routes_of m.plan } };
+    ghost view = { λ m. held_of m.blocks.items m.queues.items m.moves m.plan };
 
-    ghost invariant = { λ m. ∥ (Somewhere B.BlockStep (record { blocks = m.blocks.items; queues = m.queues.items; moves = m.moves; routes = routes_of m.plan })) ∥₁ };
+    ghost invariant = { λ m. ∥ (Somewhere B.BlockStep (held_of m.blocks.items m.queues.items m.moves m.plan)) ∥₁ };
 }
 
 impl<B: BlockStep + Drop> Machine<B> {

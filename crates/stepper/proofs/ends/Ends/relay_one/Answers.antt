@@ -5,7 +5,8 @@ use Rattle.plays.specs.Held.{Queued}
 use Rattle.plays.proofs.Lists.{same_some, get_set_here}
 use Rattle.plays.proofs.Tellings.{neither, not_full, put_back}
 use Rattle.plays.proofs.Rests.{pushed, made_same, same_made}
-use Rattle.plays.proofs.Relays.{relay_in_port, relay_in_queue, relay_out_port, relay_out_queue, relay_lists, relay_apart, made_relay, relay_waits, relay_same, still_there}
+use Rattle.plays.proofs.Relays.{relay_in_port, relay_in_queue, relay_out_port, relay_out_queue, relay_lists}
+use Rattle.plays.proofs.Relays.{relay_apart, made_relay, relay_waits, relay_same, still_there}
 use Rattle.stepper.specs.EndsView.{seen}
 use Rattle.stepper.proofs.ends.Ends.relay_one.Goals as goal
 

@@ -4,7 +4,7 @@ use Rattle.std.proofs.lemmas.Option.{slice_get_read}
 use Rattle.block_core.specs.declared.Wish.TheVariants.{Put}
 use Rattle.plays.specs.Net.{has_room}
 use Rattle.plays.specs.Held.{Queued, at_port}
-use Rattle.stepper.specs.Routes.{routes_of}
+use Rattle.stepper.specs.Routes.{held_of}
 use Rattle.stepper.specs.AtState.{AtState, Somewhere}
 use Rattle.plays.specs.Told.{HasLists}
 use Rattle.stepper.specs.Steps.{Wishes}
@@ -62,7 +62,7 @@ push_at-requires-clause-room g c = λ x at.
 
 pub invariant_of-self : goal.invariant_of-self
 invariant_of-self g c =
-    subst (λ z. ∥ (Somewhere g.B.BlockStep (record { blocks = c.self.inside.blocks.items; queues = z; moves = c.self.inside.moves; routes = routes_of c.self.inside.plan })) ∥₁)
+    subst (λ z. ∥ (Somewhere g.B.BlockStep (held_of c.self.inside.blocks.items z c.self.inside.moves c.self.inside.plan)) ∥₁)
     (sym c.in_err-push_at.ensures.refused) c.self.invariant
 
 pub returns-in_err-push_at-clause-sure : goal.returns-in_err-push_at-clause-sure
@@ -100,7 +100,7 @@ invariant_of-self-in-Err g c =
     (c.in_ok-push_at.ensures.ok c.index.result.now q)
     (c.unpush_at.ensures.left (record { tokens = c.index.result.now.tokens ++ c.args.t ∷ []; room = c.index.result.now.room })
     (ap (λ z. slice_get z c.at-channel.result) (c.in_ok-push_at.ensures.ok c.index.result.now q) ∙ get_set_here c.self.inside.queues.items c.at-channel.result _ lq)) in
-    subst (λ z. ∥ (Somewhere g.B.BlockStep (record { blocks = c.self.inside.blocks.items; queues = z; moves = c.self.inside.moves; routes = routes_of c.self.inside.plan })) ∥₁)
+    subst (λ z. ∥ (Somewhere g.B.BlockStep (held_of c.self.inside.blocks.items z c.self.inside.moves c.self.inside.plan)) ∥₁)
     (sym back) c.self.invariant
 
 pub returns-in-Err-clause-refused : goal.returns-in-Err-clause-refused
@@ -113,7 +113,7 @@ returns-in-Err-clause-refused g c =
     (c.in_ok-push_at.ensures.ok c.index.result.now q)
     (c.unpush_at.ensures.left (record { tokens = c.index.result.now.tokens ++ c.args.t ∷ []; room = c.index.result.now.room })
     (ap (λ z. slice_get z c.at-channel.result) (c.in_ok-push_at.ensures.ok c.index.result.now q) ∙ get_set_here c.self.inside.queues.items c.at-channel.result _ lq)) in (
-      ap (λ z. record { blocks = c.self.inside.blocks.items; queues = z; moves = c.self.inside.moves; routes = routes_of c.self.inside.plan }) back ∙ c.self.view_is,
+      ap (λ z. held_of c.self.inside.blocks.items z c.self.inside.moves c.self.inside.plan) back ∙ c.self.view_is,
       c.in-Err.ensures.refused,
     )
 

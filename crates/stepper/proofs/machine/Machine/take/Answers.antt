@@ -2,7 +2,7 @@ use Rattle.std.proofs.Common.{◌≡◌, ◌<◌, ◌∙◌, sym, ap, subst, ref
 use Rattle.std.proofs.lemmas.Bool.{false≢true}
 use Rattle.std.proofs.lemmas.Option.{slice_get_read}
 use Rattle.block_core.specs.declared.Wish.TheVariants.{Take}
-use Rattle.stepper.specs.Routes.{routes_of}
+use Rattle.stepper.specs.Routes.{held_of}
 use Rattle.stepper.specs.AtState.{AtState, Somewhere}
 use Rattle.stepper.specs.Steps.{Wishes}
 use Rattle.plays.proofs.Lists.{some_in}
@@ -51,7 +51,7 @@ take_at-requires-clause-may g c =
 
 pub invariant_of-self : goal.invariant_of-self
 invariant_of-self g c =
-    subst (λ z. ∥ (Somewhere g.B.BlockStep (record { blocks = z; queues = c.self.inside.queues.items; moves = c.self.inside.moves; routes = routes_of c.self.inside.plan })) ∥₁)
+    subst (λ z. ∥ (Somewhere g.B.BlockStep (held_of z c.self.inside.queues.items c.self.inside.moves c.self.inside.plan)) ∥₁)
     (sym c.in_err-take_at.ensures.refused) c.self.invariant
 
 pub returns-in_err-take_at-clause-sure : goal.returns-in_err-take_at-clause-sure
