@@ -144,17 +144,17 @@ pub counted_more : (n m : ℕ) → m ≡ min n (2 ^ 64 - 1) → min (m + 1) (2 ^
 counted_more n m e = grind (arith)
 
 -- all but the blocks after an event
-abbrev after : BlockEnds → ℕ → Queued → Tapped → BlockEnds
-after e c q told = refilled e (set e.queues c q) told (min (e.moves + 1) (2 ^ 64 - 1))
+abbrev ends_after : BlockEnds → ℕ → Queued → Tapped → BlockEnds
+ends_after e c q told = refilled e (set e.queues c q) told (min (e.moves + 1) (2 ^ 64 - 1))
 
-moved : (net : Net) (rooms : Rooms) (s : State) (e : BlockEnds) → RestAt net rooms s e
+rest_moved : (net : Net) (rooms : Rooms) (s : State) (e : BlockEnds) → RestAt net rooms s e
     → (c : ℕ) (q q' : Queued) (told : Tapped)
     → can net rooms s e.block ≡ true
     → slice_get e.queues c ≡ Some q → q'.room ≡ q.room → Waits net (raise e.block s) c q'.tokens
     → ((d : ℕ) (r : List Token) → d < net.channels → (d ≡ c → ⊥) → Waits net s d r → Waits net (raise e.block s) d r)
     → (HasLists (length e.queues) e.told → HasLists (length e.queues) told)
-    → RestAt net rooms (raise e.block s) (after e c q' told)
-moved net rooms s e h c q q' told possible at room waits others lists =
+    → RestAt net rooms (raise e.block s) (ends_after e c q' told)
+rest_moved net rooms s e h c q q' told possible at room waits others lists =
     let l : e.block < net.blocks = in_net net rooms s e.block h.wired possible in
     let lc : c < length e.queues = slice_get_within e.queues c q at in
     let number : length (set e.queues c q') ≡ length e.queues = length-set e.queues c q' in
@@ -182,8 +182,8 @@ moved net rooms s e h c q q' told possible at room waits others lists =
       apart = h.apart;
     }
 
-raised : (net : Net) (rooms : Rooms) (s : State) (b : ℕ) → can net rooms s b ≡ true → AfterMoves net rooms s b 1 (raise b s)
-raised net rooms s b possible = record {
+once_raised : (net : Net) (rooms : Rooms) (s : State) (b : ℕ) → can net rooms s b ≡ true → AfterMoves net rooms s b 1 (raise b s)
+once_raised net rooms s b possible = record {
   leads = (b ∷ [], sym (turn_made net rooms s b possible));
   here = let r = raise_here b s in omega (arith, r);
   there = λ d other. raise_there b s d other;
@@ -237,13 +237,13 @@ made_take e p t qs n first lc eq en =
           let possible : can net rooms s e.block ≡ true = can_take net rooms s e.block p t q.tokens move w ∙ front_length q.tokens t first in
           let waits : Waits net (raise e.block s) c (drop 1 q.tokens) =
           subst (λ k. Waits net (raise e.block s) k (drop 1 q.tokens)) (sym here) (waits_take net s e.block p t (drop 1 q.tokens) h.wired move w') in
-          let r : RestAt net rooms (raise e.block s) (after e c (popped q) e.told) =
-          moved net rooms s e h c q (popped q) e.told possible at refl waits
+          let r : RestAt net rooms (raise e.block s) (ends_after e c (popped q) e.told) =
+          rest_moved net rooms s e h c q (popped q) e.told possible at refl waits
           (λ d r ld other old. waits_take_there net s e.block p t d r h.wired move ld (λ z. other (z ∙ sym here)) old) (λ x. x) in
-          let same : after e c (popped q) e.told ≡ refilled e qs e.told n =
+          let same : ends_after e c (popped q) e.told ≡ refilled e qs e.told n =
           ap (λ z. refilled e z e.told (min (e.moves + 1) (2 ^ 64 - 1))) (sym eq)
           ∙ ap (λ z. refilled e qs e.told z) (sym en) in
-          (raise e.block s, raised net rooms s e.block possible, subst (RestAt net rooms (raise e.block s)) same r, told_take net s e.block p t e.told move);
+          (raise e.block s, once_raised net rooms s e.block possible, subst (RestAt net rooms (raise e.block s)) same r, told_take net s e.block p t e.told move);
     }
 
 abbrev pub pushed : Queued → Token → Queued
@@ -273,17 +273,17 @@ made_put e p t qs told n q at open_ eq et en =
           let possible : can net rooms s e.block ≡ true = can_put net rooms s e.block p t q.tokens move w ∙ room in
           let waits : Waits net (raise e.block s) c (q.tokens ++ t ∷ []) =
           subst (λ k. Waits net (raise e.block s) k (q.tokens ++ t ∷ [])) (sym here) (waits_put net s e.block p t q.tokens h.wired move w) in
-          let r : RestAt net rooms (raise e.block s) (after e c (pushed q t) told) =
-          moved net rooms s e h c q (pushed q t) told possible at refl waits
+          let r : RestAt net rooms (raise e.block s) (ends_after e c (pushed q t) told) =
+          rest_moved net rooms s e h c q (pushed q t) told possible at refl waits
           (λ d r ld other old. waits_put_there net s e.block p t d r h.wired move ld (λ z. other (z ∙ sym here)) old)
           (lists_put (length e.queues) c t e.told told et) in
-          let same : after e c (pushed q t) told ≡ refilled e qs told n =
+          let same : ends_after e c (pushed q t) told ≡ refilled e qs told n =
           ap (λ z. refilled e z told (min (e.moves + 1) (2 ^ 64 - 1))) (sym eq)
           ∙ ap (λ z. refilled e qs told z) (sym en) in
           let lists : HasLists net.channels e.told = subst (λ k. HasLists k e.told) h.queues_number h.lists in
           let grew : Grew net s (raise e.block s) e.told told =
           subst (Grew net s (raise e.block s) e.told) (ap (λ k. one_told k t e.told) (sym here) ∙ sym et) (told_put net s e.block p t e.told h.wired move lists) in
-          (raise e.block s, raised net rooms s e.block possible, subst (RestAt net rooms (raise e.block s)) same r, grew);
+          (raise e.block s, once_raised net rooms s e.block possible, subst (RestAt net rooms (raise e.block s)) same r, grew);
     }
 
 -- a tap may be told

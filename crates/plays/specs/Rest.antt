@@ -42,7 +42,7 @@ waits_at e p = (in_queue e p).tokens
 abbrev pub first_at : BlockEnds → ℕ → Option Token
 first_at e p = slice_get (waits_at e p) 0
 
--- All but the blocks step.stands at a state of a net.
+-- All but the blocks stands at a state of a net.
 pub record RestAt (net : Net) (rooms : Rooms) (s : State) (e : BlockEnds) : Type 0 where
   pub wired : Wired net
   pub kept : WithinBounds net rooms s
@@ -65,7 +65,7 @@ pub record AfterMoves (net : Net) (rooms : Rooms) (s : State) (b k : ℕ) (t : S
   pub here : t b ≡ s b + k
   pub there : (d : ℕ) → (d ≡ b → ⊥) → t d ≡ s d
 
--- Wherever it stood with these moves before the block, it step.stands where they lead.
+-- Wherever it stood with these moves before the block, it stands where they lead.
 abbrev pub Advances : BlockEnds → List Move → BlockEnds → Type 0
 Advances e ms e' =
     (net : Net) (rooms : Rooms) (s : State) (rest : List Move) → RestAt net rooms s e → drop (s e.block) (net.moves e.block) ≡ ms ++ rest

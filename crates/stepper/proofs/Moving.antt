@@ -28,8 +28,8 @@ use Rattle.stepper.proofs.Wires.{wired, move_within, take_port, put_port}
 use Rattle.std.proofs.lemmas.List.{length-set}
 
 -- the machine after an event: one block, one queue and the count are new
-abbrev pub after : {B : Type 0} → Held B → ℕ → B → ℕ → Queued → Held B
-after m b y c q = record {
+abbrev pub machine_after : {B : Type 0} → Held B → ℕ → B → ℕ → Queued → Held B
+machine_after m b y c q = record {
   blocks = set m.blocks b y;
   queues = set m.queues c q;
   moves = min (m.moves + 1) (2 ^ 64 - 1);
@@ -38,14 +38,14 @@ after m b y c q = record {
 
 module _ {B : Type 0} (step : Ghosts B) (storages : List Ranked) (g : Graph) (caps : List (Option ℕ)) where
   -- an event is possible, its block and its queue are where it leads, and nothing else changed
-  pub moved : (s : State) (m : Held B) → AtState step storages g caps s m
+  pub stands_moved : (s : State) (m : Held B) → AtState step storages g caps s m
       → (b : ℕ) (x y : B) (c : ℕ) (q q' : Queued)
       → can (net_of storages g) (rooms_of caps) s b ≡ true
       → slice_get m.blocks b ≡ Some x → step.kind y ≡ step.kind x → step.stands y (whole_inputs storages g b) (s b + 1)
       → slice_get m.queues c ≡ Some q → q'.room ≡ q.room → Waits (net_of storages g) (raise b s) c q'.tokens
       → ((d : ℕ) (r : List Token) → d < length g.channels → (d ≡ c → ⊥) → Waits (net_of storages g) s d r → Waits (net_of storages g) (raise b s) d r)
-      → AtState step storages g caps (raise b s) (after m b y c q')
-  moved s m h b x y c q q' possible at k st qat room waits others =
+      → AtState step storages g caps (raise b s) (machine_after m b y c q')
+  stands_moved s m h b x y c q q' possible at k st qat room waits others =
       let w = wired storages g h.well_formed h.consistent in
       let net = net_of storages g in
       let l : b < length g.blocks = in_net net (rooms_of caps) s b w possible in

@@ -22,7 +22,7 @@ use Rattle.stepper.specs.Steps.{Wishes, WaitsOn, Moved, hindrance_of}
 use Rattle.plays.proofs.Lists.{some_in}
 use Rattle.plays.proofs.Tellings.{told_put, not_full}
 use Rattle.stepper.proofs.Wires.{wired}
-use Rattle.stepper.proofs.Moving.{after, moved, put_facts}
+use Rattle.stepper.proofs.Moving.{machine_after, stands_moved, put_facts}
 
 is_full : (b : Bool) → not b ≡ true → b ≡ false
 is_full true e = absurd (cc)
@@ -104,10 +104,10 @@ module _ {B : Type 0} (step : Ghosts B) (m : Held B) (b p : ℕ) (t : Token) whe
       let stood : step.stands y.0 (whole_inputs storages g b) (s b + 1) = y.3 (whole_inputs storages g b) (s b) p t (h.standing.placed b x.0 x.1) move in
       let waits : Waits net (raise b s) c (q.tokens ++ t ∷ []) =
       subst (λ k. Waits net (raise b s) k (q.tokens ++ t ∷ [])) (sym here) (waits_put net s b p t q.tokens wire f.0 w) in
-      let at' : AtState step storages g caps (raise b s) (after m b y.0 c q') =
-      moved step storages g caps s m h b x.0 y.0 c q q' possible x.1 y.2 stood qat refl waits
+      let at' : AtState step storages g caps (raise b s) (machine_after m b y.0 c q') =
+      stands_moved step storages g caps s m h b x.0 y.0 c q q' possible x.1 y.2 stood qat refl waits
       (λ d r ld other old. waits_put_there net s b p t d r wire f.0 ld (λ z. other (z ∙ sym here)) old) in
-      let same : after m b y.0 c q' ≡ record { blocks = bs; queues = qs; moves = n; routes = m.routes } =
+      let same : machine_after m b y.0 c q' ≡ record { blocks = bs; queues = qs; moves = n; routes = m.routes } =
       ap (λ z. record { blocks = z; queues = set m.queues c q'; moves = min (m.moves + 1) (2 ^ 64 - 1); routes = m.routes }) (sym y.1)
       ∙ ap (λ z. record { blocks = bs; queues = z; moves = min (m.moves + 1) (2 ^ 64 - 1); routes = m.routes }) (sym pushed)
       ∙ ap (λ z. record { blocks = bs; queues = qs; moves = z; routes = m.routes }) (sym counted) in

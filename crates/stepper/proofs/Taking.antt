@@ -22,7 +22,7 @@ use Rattle.stepper.specs.Steps.{Wishes, WaitsOn, Moved, hindrance_of}
 use Rattle.plays.proofs.Lists.{some_in}
 use Rattle.plays.proofs.Tellings.{told_take, front_first, front_length}
 use Rattle.stepper.proofs.Wires.{wired}
-use Rattle.stepper.proofs.Moving.{after, moved, take_facts}
+use Rattle.stepper.proofs.Moving.{machine_after, stands_moved, take_facts}
 
 no_front : (q : List Token) → slice_get q 0 ≡ None → length q ≡ 0
 no_front [] e = refl
@@ -100,10 +100,10 @@ module _ {B : Type 0} (step : Ghosts B) (m : Held B) (b p : ℕ) where
       ap (λ k. slice_get (moves k (whole_inputs storages g b)) (s b)) (h.standing.kinds b x.0 x.1) ∙ move in
       let stood : step.stands y.0 (whole_inputs storages g b) (s b + 1) = y.3 (whole_inputs storages g b) (s b) (h.standing.placed b x.0 x.1) own in
       let waits : Waits net (raise b s) c (drop 1 q.tokens) = subst (λ k. Waits net (raise b s) k (drop 1 q.tokens)) (sym here) (waits_take net s b p t (drop 1 q.tokens) wire move first) in
-      let at' : AtState step storages g caps (raise b s) (after m b y.0 c q') =
-      moved step storages g caps s m h b x.0 y.0 c q q' possible x.1 y.2 stood qat refl waits
+      let at' : AtState step storages g caps (raise b s) (machine_after m b y.0 c q') =
+      stands_moved step storages g caps s m h b x.0 y.0 c q q' possible x.1 y.2 stood qat refl waits
       (λ d r ld other old. waits_take_there net s b p t d r wire move ld (λ z. other (z ∙ sym here)) old) in
-      let same : after m b y.0 c q' ≡ record { blocks = bs; queues = qs; moves = n; routes = m.routes } =
+      let same : machine_after m b y.0 c q' ≡ record { blocks = bs; queues = qs; moves = n; routes = m.routes } =
       ap (λ z. record { blocks = z; queues = set m.queues c q'; moves = min (m.moves + 1) (2 ^ 64 - 1); routes = m.routes }) (sym y.1)
       ∙ ap (λ z. record { blocks = bs; queues = z; moves = min (m.moves + 1) (2 ^ 64 - 1); routes = m.routes }) (sym popped)
       ∙ ap (λ z. record { blocks = bs; queues = qs; moves = z; routes = m.routes }) (sym counted) in

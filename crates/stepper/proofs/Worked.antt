@@ -20,8 +20,8 @@ use Rattle.plays.specs.Told.{one_told, HasLists, Grew, GrewAt}
 use Rattle.stepper.specs.Steps.{hindrance}
 use Rattle.stepper.specs.Endings.{waiting_list}
 
-abbrev leads : ℕ → ℕ → ℕ → ℕ → Channel
-leads from_block from_port to_block to_port = record {
+abbrev joins : ℕ → ℕ → ℕ → ℕ → Channel
+joins from_block from_port to_block to_port = record {
   from_block = from_block;
   from_port = from_port;
   to_block = to_block;
@@ -37,7 +37,7 @@ fork = record {
       ∷ record { kind = Drain; ins = 1 ∷ []; outs = [] }
       ∷ record { kind = Drain; ins = 2 ∷ []; outs = [] }
       ∷ [];
-  channels = leads 0 0 1 0 ∷ leads 1 0 2 0 ∷ leads 1 1 3 0 ∷ [];
+  channels = joins 0 0 1 0 ∷ joins 1 0 2 0 ∷ joins 1 1 3 0 ∷ [];
 }
 
 abbrev net : Net
@@ -63,10 +63,10 @@ may-go-on : hindrance net (rooms_of []) (play net (rooms_of []) start (0 ∷ [])
 may-go-on = refl
 
 -- who is unfinished before the first event, and after the last
-abbrev waiting : ℕ → ℕ → Bool → Waiting
-waiting b c full = record { block = b; channel = c; full = full }
+abbrev waits_there : ℕ → ℕ → Bool → Waiting
+waits_there b c full = record { block = b; channel = c; full = full }
 
-all-wait : waiting_list net start ≡ waiting 0 0 true ∷ waiting 1 0 false ∷ waiting 2 1 false ∷ waiting 3 2 false ∷ []
+all-wait : waiting_list net start ≡ waits_there 0 0 true ∷ waits_there 1 0 false ∷ waits_there 2 1 false ∷ waits_there 3 2 false ∷ []
 all-wait = refl
 
 abbrev whole_play : List ℕ
@@ -75,7 +75,7 @@ whole_play = 0 ∷ 1 ∷ 0 ∷ 1 ∷ 1 ∷ 1 ∷ 1 ∷ 1 ∷ 2 ∷ 3 ∷ 2 ∷ 3
 none-waits : waiting_list net (play net (rooms_of caps) start whole_play) ≡ []
 none-waits = refl
 
-one-is-left : waiting_list net (play net (rooms_of caps) start (0 ∷ 1 ∷ 0 ∷ 1 ∷ 1 ∷ 1 ∷ 1 ∷ 1 ∷ 2 ∷ 2 ∷ 3 ∷ [])) ≡ waiting 3 2 false ∷ []
+one-is-left : waiting_list net (play net (rooms_of caps) start (0 ∷ 1 ∷ 0 ∷ 1 ∷ 1 ∷ 1 ∷ 1 ∷ 1 ∷ 2 ∷ 2 ∷ 3 ∷ [])) ≡ waits_there 3 2 false ∷ []
 one-is-left = refl
 
 -- twelve moves: twice the six tokens of all streams
