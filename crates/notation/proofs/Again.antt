@@ -49,11 +49,11 @@ vars-again V N D hv hc hd end a v (w ∷ ws) (x ∷ y ∷ xs) more h =
     }
 
 -- what may stand behind a factor
-abbrev Ends : List Mark → Type 0
-Ends [] = Unit {0}
-Ends (m ∷ ms) = (m.token ≡ t.Star) ⊎ ((m.token ≡ t.Plus) ⊎ (m.token ≡ t.Minus))
+abbrev EndsFactor : List Mark → Type 0
+EndsFactor [] = Unit {0}
+EndsFactor (m ∷ ms) = (m.token ≡ t.Star) ⊎ ((m.token ≡ t.Plus) ⊎ (m.token ≡ t.Minus))
 
-settles : (end : ℕ) (p : Part) (a : AccessText) (xs : List Placed) (more : List Mark) → Marked xs more → Ends more → run end (s.Named p a) xs ≡ run end (s.Operator (with_factor p (f.Access a))) xs
+settles : (end : ℕ) (p : Part) (a : AccessText) (xs : List Placed) (more : List Mark) → Marked xs more → EndsFactor more → run end (s.Named p a) xs ≡ run end (s.Operator (with_factor p (f.Access a))) xs
 unfolding run go step_of end_of
 settles end p a [] more h e = refl
 settles end p a (x ∷ xs) [] h e = absurd h
@@ -88,7 +88,7 @@ step-open p a place = refl
 named : (end : ℕ) (p : Part) (n : List ℕ) (place : ℕ) (x : Placed) (xs : List Placed) → x.token ≡ t.Name n → x.place ≡ place → run end (s.Factor p) (x ∷ xs) ≡ run end (s.Named p (named_access n place)) xs
 named end p n place x xs e h = one end (s.Factor p) (s.Named p (named_access n x.place)) x xs (t.Name n) e (step-name p n x.place) ∙ ap (λ k. run end (s.Named p (named_access n k)) xs) h
 
-access-again : (end : ℕ) (p : Part) (n : List ℕ) (vs : List (List ℕ)) (place : ℕ) (xs : List Placed) (more : List Mark) → let a : AccessText = record { name = n; vars = vs; place = place } in Marked xs (access_marks a ++ more) → Ends more → Goes end (s.Factor p) xs (s.Operator (with_factor p (f.Access a))) more
+access-again : (end : ℕ) (p : Part) (n : List ℕ) (vs : List (List ℕ)) (place : ℕ) (xs : List Placed) (more : List Mark) → let a : AccessText = record { name = n; vars = vs; place = place } in Marked xs (access_marks a ++ more) → EndsFactor more → Goes end (s.Factor p) xs (s.Operator (with_factor p (f.Access a))) more
 access-again end p n vs place [] more h e = absurd h
 access-again end p n [] place (x ∷ xs) more h e = record { rest = xs; marked = h.1; same = named end p n place x xs h.0.0 h.0.1 ∙ settles end p (named_access n place) xs more h.1 e }
 access-again end p n (v ∷ vs) place (x ∷ []) more h e = absurd h.1
@@ -97,7 +97,7 @@ access-again end p n (v ∷ vs) place (x ∷ y ∷ xs) more h e =
     let r = vars-again (s.Var p) (s.Next p) (λ a. s.Operator (with_factor p (f.Access a))) (step-var p) (step-comma p) (step-close p) end (named_access n place) v vs xs more m in
     record { rest = r.rest; marked = r.marked; same = named end p n place x (y ∷ xs) h.0.0 h.0.1 ∙ one end (s.Named p (named_access n place)) (s.Var p (named_access n place)) y xs t.Open h.1.0.0 (step-open p (named_access n place) y.place) ∙ r.same }
 
-factor-again : (end : ℕ) (p : Part) (x : FactorText) (xs : List Placed) (more : List Mark) → Marked xs (factor x ++ more) → Ends more → Goes end (s.Factor p) xs (s.Operator (with_factor p x)) more
+factor-again : (end : ℕ) (p : Part) (x : FactorText) (xs : List Placed) (more : List Mark) → Marked xs (factor x ++ more) → EndsFactor more → Goes end (s.Factor p) xs (s.Operator (with_factor p x)) more
 factor-again end p (f.Access a) xs more h e = access-again end p a.name a.vars a.place xs more h e
 factor-again end p (f.Literal n) [] more h e = absurd h
 factor-again end p (f.Literal n) (x ∷ xs) more h e = record { rest = xs; marked = h.1; same = one end (s.Factor p) (s.Operator (with_factor p (f.Literal n))) x xs (t.Number n) h.0.0 (step-number p n x.place) }
@@ -113,7 +113,7 @@ star : (end : ℕ) (p : Part) (xs : List Placed) (more : List Mark) → length p
 star end p [] more lt h = absurd h
 star end p (x ∷ xs) more lt h = record { rest = xs; marked = h.1; same = one end (s.Operator p) (s.Factor p) x xs t.Star h.0.0 (step-star p x.place lt) }
 
-factors-again : (end : ℕ) (p : Part) (y : FactorText) (ys : List FactorText) (xs : List Placed) (more : List Mark) → length p.factors + (length ys + 1) ≤ 8 → Marked xs (factors (y ∷ ys) ++ more) → Ends more → Goes end (s.Factor p) xs (s.Operator (with_all p (y ∷ ys))) more
+factors-again : (end : ℕ) (p : Part) (y : FactorText) (ys : List FactorText) (xs : List Placed) (more : List Mark) → length p.factors + (length ys + 1) ≤ 8 → Marked xs (factors (y ∷ ys) ++ more) → EndsFactor more → Goes end (s.Factor p) xs (s.Operator (with_all p (y ∷ ys))) more
 factors-again end p y [] xs more fits h e = factor-again end p y xs more h e
 factors-again end p y (z ∷ zs) xs more fits h e =
     let m : Marked xs (factor y ++ (bare_mark t.Star ∷ (factors (z ∷ zs) ++ more))) = subst (λ ms. Marked xs ms) (append_assoc (factor y) (bare_mark t.Star ∷ factors (z ∷ zs)) more) h in
@@ -129,15 +129,15 @@ next_sign end p false [] more lt h = absurd h
 next_sign end p true (x ∷ xs) more lt h = record { rest = xs; marked = h.1; same = one end (s.Operator p) (s.Factor (next_term p true)) x xs t.Minus h.0.0 (rw (lt-ltb _ _ lt) refl) }
 next_sign end p false (x ∷ xs) more lt h = record { rest = xs; marked = h.1; same = one end (s.Operator p) (s.Factor (next_term p false)) x xs t.Plus h.0.0 (rw (lt-ltb _ _ lt) refl) }
 
-sign_ends : (minus : Bool) (more : List Mark) → Ends (sign false minus ++ more)
+sign_ends : (minus : Bool) (more : List Mark) → EndsFactor (sign false minus ++ more)
 sign_ends true more = inr (inr refl)
 sign_ends false more = inr (inl refl)
 
-terms_end : (xs : List TermText) → Ends (terms false xs)
+terms_end : (xs : List TermText) → EndsFactor (terms false xs)
 terms_end [] = tt
 terms_end (x ∷ xs) = sign_ends x.minus (factors x.factors ++ terms false xs)
 
-term-again : (end : ℕ) (p : Part) (fs : List FactorText) (xs : List Placed) (more : List Mark) → 0 < length fs → length p.factors + length fs ≤ 8 → Marked xs (factors fs ++ more) → Ends more → Goes end (s.Factor p) xs (s.Operator (with_all p fs)) more
+term-again : (end : ℕ) (p : Part) (fs : List FactorText) (xs : List Placed) (more : List Mark) → 0 < length fs → length p.factors + length fs ≤ 8 → Marked xs (factors fs ++ more) → EndsFactor more → Goes end (s.Factor p) xs (s.Operator (with_all p fs)) more
 term-again end p [] xs more some fits h e = absurd (omega (arith, some))
 term-again end p (y ∷ ys) xs more some fits h e = factors-again end p y ys xs more (omega (arith, fits)) h e
 

@@ -4,7 +4,9 @@ ghost use Rattle.std.specs.Prelude.{◌≡◌, option_copied, IfOk};
 ghost use Rattle.std.specs.List.{list_all, list_any};
 ghost use Rattle.program_file.specs.Accesses.{is_known};
 ghost use Rattle.sam_model.specs.Accepted.{is_named};
-ghost use Rattle.program_file.specs.Checks.{is_access_text, factor_text_has, term_text_has, missing, term_fault, terms_fault, are_loops, loop_place, places, access_discordant, factors_discordant, terms_discordant, count_after, is_too_deep, names_deep, factors_deep, terms_deep};
+ghost use Rattle.program_file.specs.Checks.{is_access_text, factor_text_has, term_text_has, missing, term_fault, terms_fault};
+ghost use Rattle.program_file.specs.Checks.{are_loops, loop_place, places, access_discordant, factors_discordant, terms_discordant};
+ghost use Rattle.program_file.specs.Checks.{count_after, is_too_deep, names_deep, factors_deep, terms_deep};
 
 use crate::accesses::{Variable, is_known, tensor_named};
 use notation::{AccessText, FactorText, TermText};

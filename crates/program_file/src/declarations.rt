@@ -5,7 +5,8 @@ ghost use Rattle.std.specs.List.{list_all, position_or_len};
 ghost use mathlib.Core.List.{map};
 ghost use Rattle.sam_text.specs.Numbers.{is_decimal};
 ghost use Rattle.sam_text.specs.Words.{words};
-ghost use Rattle.program_file.specs.Declarations.{parts, are_decimals, numbers, capped, is_format_letter, format_of, zero_based, is_shape, tensor_with, scalar, is_printable, tensor_of, result_of, declared, all_compressed};
+ghost use Rattle.program_file.specs.Declarations.{parts, are_decimals, numbers, capped, is_format_letter, format_of, zero_based};
+ghost use Rattle.program_file.specs.Declarations.{is_shape, tensor_with, scalar, is_printable, tensor_of, result_of, declared, all_compressed};
 ghost use Rattle.sam_text.specs.Names.{is_name};
 ghost use Rattle.program_file.specs.Refusals.{GivesProgram};
 
@@ -119,7 +120,8 @@ fn shaped(
     order: &[u8],
     file: &[u8],
 ) -> Result<Option<Tensor>, AllocError>
-    ensures { IfOk result (λ found. found ≡ (if is_shape dims.now formats.now order.now then Some (tensor_with name.now dims.now formats.now order.now file.now) else None)) }
+    ensures { IfOk result (λ found. found ≡ (if is_shape dims.now formats.now order.now
+        then Some (tensor_with name.now dims.now formats.now order.now file.now) else None)) }
 {
     let Some(dims) = numbers_of(alloc, dims, b'x')? else {
         return Ok(None);
