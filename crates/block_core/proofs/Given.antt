@@ -36,9 +36,6 @@ fits-given kind j e s w = record { streams = s; back = ap (given kind) e; well =
 pub outputs-given : (kind : Kind) (j : Reading kind) → reading kind (given kind j) ≡ j → outputs kind (given kind j) ≡ made kind j
 outputs-given kind j e = ap (made kind) e
 
-pub moves-given : (kind : Kind) (j : Reading kind) → reading kind (given kind j) ≡ j → moves kind (given kind j) ≡ played kind j
-moves-given kind j e = ap (played kind) e
-
 -- where the inputs and outputs are those of a reading that is read back
 pub gives : (kind : Kind) (j : Reading kind) (ins outs : Streams) → reading kind (given kind j) ≡ j → Well kind j
     → given kind j ≡ ins → made kind j ≡ outs → AllStreams ins → Gives kind ins outs

@@ -78,10 +78,6 @@ contents-both [] gs = refl
 contents-both (([], n) ∷ fs) gs = contents-both fs gs
 contents-both (((x ∷ xs), n) ∷ fs) gs = ap (λ (y : List (List ℕ)). (x ∷ xs) ∷ y) (contents-both fs gs)
 
-contents-one : (xs : List ℕ) (n : ℕ) (fs : List (Fiber ℕ)) → contents ((xs, n) ∷ fs) ≡ filter is_nonempty (xs ∷ []) ++ contents fs
-contents-one [] n fs = refl
-contents-one (x ∷ xs) n fs = refl
-
 contents-spread : (x : List ℕ) (xs : List (List ℕ)) (n : ℕ) → contents (spread x xs n) ≡ filter is_nonempty (x ∷ xs)
 contents-spread [] [] n = refl
 contents-spread (y ∷ ys) [] n = refl

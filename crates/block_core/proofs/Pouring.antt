@@ -155,36 +155,6 @@ module _ {B P : Type 0} (kind : B → Kind) (stands : B → Streams → ℕ → 
   pub poured_some : (b : B) (p : P) (b' : B) (p' : P) (went : Bool) → Poured kind stands fed did b p b' p' went → Poured kind stands fed did b p b' p' false
   poured_some b p b' p' went h s n st fd = let z = h s n st fd in (z.0, λ e. absurd (cc), z.2, z.3)
 
-pub take-sum : (ms : List Move) (j k : ℕ) → take (j + k) ms ≡ take j ms ++ take k (drop j ms)
-take-sum ms zero k = let e : 0 + k ≡ k = omega arith in ap (λ n. take n ms) e
-take-sum [] (suc j) k = let e : suc j + k ≡ suc (j + k) = omega arith in ap (λ n. take n []) e ∙ sym (nothing k)
-  where
-    nothing : (n : ℕ) → ◌≡◌ {A = List Move} (take n []) []
-    nothing zero = refl
-    nothing (suc n) = refl
-take-sum (x ∷ xs) (suc j) k = let e : suc j + k ≡ suc (j + k) = omega arith in ap (λ n. take n (x ∷ xs)) e ∙ ap (λ (z : List Move). x ∷ z) (take-sum xs j k)
-
--- a burst after another
-pub poured-then : {B P : Type 0} (kind : B → Kind) (stands : B → Streams → ℕ → Type 0) (fed : P → List Move → Type 0) (did : P → List Move → P → Type 0)
-    → ((p q : P) (xs rest : List Move) → did p xs q → fed p (xs ++ rest) → fed q rest)
-    → ((p q r : P) (xs ys : List Move) → did p xs q → did q ys r → did p (xs ++ ys) r)
-    → (b : B) (p : P) (b' : B) (p' : P) (a : Bool) (b'' : B) (p'' : P) (went : Bool) → kind b' ≡ kind b
-    → Poured kind stands fed did b p b' p' a → Poured kind stands fed did b' p' b'' p'' went → Poured kind stands fed did b p b'' p'' went
-poured-then kind stands fed did after joined b p b' p' a b'' p'' went same first next s n st fd =
-    let ms = moves (kind b) s in
-    let x = first s n st fd in
-    let fd' : fed p' (drop (n + x.0) ms) = fed_then kind stands fed did after p p' ms n x.0 fd x.3 in
-    let y = next s (n + x.0) x.2 (subst (λ k. fed p' (drop (n + x.0) (moves k s))) (sym same) fd') in
-    let here : take y.0 (drop (n + x.0) (moves (kind b') s)) ≡ take y.0 (drop x.0 (drop n ms)) =
-    ap (λ k. take y.0 (drop (n + x.0) (moves k s))) same ∙ ap (λ (z : List Move). take y.0 z) (sym (drop-twice ms n x.0)) in
-    let d : did p' (take y.0 (drop x.0 (drop n ms))) p'' = subst (λ (z : List Move). did p' z p'') here y.3 in
-    let more = y.1 in (
-      x.0 + y.0,
-      λ z. let h = more z in omega (arith, h),
-      subst (stands b'' s) (omega arith) y.2,
-      subst (λ (z : List Move). did p z p'') (sym (take-sum (drop n ms) x.0 y.0)) (joined p p' p'' (take x.0 (drop n ms)) (take y.0 (drop x.0 (drop n ms))) x.3 d),
-    )
-
 pub always-err : {T E : Type 0} (r : Result T E) {P : Type 0} → P → IfErr r (λ _. P)
 always-err (Ok x) p = tt
 always-err (Err e) p = p
@@ -201,11 +171,3 @@ first-is fed waits comes p port t u rest e f =
     front : (more : List Token) (ws : List Token) → slice_get ws 0 ≡ Some t → ws ++ more ≡ u ∷ takes port rest → t ≡ u
     front more [] e h = absurd (cc)
     front more (w ∷ ws) e h = cc
-
-pub ok-map : {T E : Type 0} (r : Result T E) {P Q : T → Type 0} → ((x : T) → P x → Q x) → IfOk r P → IfOk r Q
-ok-map (Ok x) f h = f x h
-ok-map (Err e) f h = tt
-
-pub err-map : {T E : Type 0} (r : Result T E) {P Q : E → Type 0} → ((x : E) → P x → Q x) → IfErr r P → IfErr r Q
-err-map (Ok x) f h = tt
-err-map (Err e) f h = f e h

@@ -31,10 +31,6 @@ pub stands-start : {S : Type 0} (m : Steps S) (s : S) (kind : Kind) (w : Streams
     → Fits kind w → Runs m s (moves kind w) → Stands (Runs m s) kind w 0
 stands-start m s kind w f r = record { fits = f; within = omega arith; rest = r }
 
-pub stands-wish : {S : Type 0} (m : Steps S) (s : S) (kind : Kind) (w : Streams) (n : ℕ) (x : Wish)
-    → x ≡ m.wants s → Stands (Runs m s) kind w n → x ≡ wish_of (drop n (moves kind w))
-stands-wish m s kind w n x e h = e ∙ wants-next m s _ h.rest
-
 pub stands-take : {S : Type 0} (m : Steps S) (s s' : S) (kind : Kind) (w : Streams) (n port : ℕ) (t : Token)
     → s' ≡ m.took s t → slice_get (moves kind w) n ≡ Some (Taking port t)
     → Stands (Runs m s) kind w n → Stands (Runs m s') kind w (n + 1)

@@ -3,4 +3,3 @@ pub mod Tokens
 pub mod Heads
 pub mod MergeRuns
 pub mod MergeStands
-pub mod Twos

@@ -118,9 +118,3 @@ fibers_of-flat fs (inr s) =
 
 pub fibers_of-stream : (d : ℕ) (t : Nest Leaf d) → fibers_of (stream d t) ≡ fibers d t
 fibers_of-stream d t = ap fibers_of (stream-fibers d t) ∙ fibers_of-flat (fibers d t) (shaped-fibers d t)
-
-pub flat-fibers_of : (s : List Token) → IsStream s → flat leaf (fibers_of s) ≡ s
-flat-fibers_of s h = ap (λ (x : List Token). flat leaf (fibers_of x)) h.3 ∙ ap (flat leaf) (fibers_of-stream h.0 h.2) ∙ sym (stream-fibers h.0 h.2) ∙ sym h.3
-
-pub IsStream-shaped : (s : List Token) → IsStream s → Shaped (fibers_of s)
-IsStream-shaped s h = subst Shaped (sym (ap fibers_of h.3 ∙ fibers_of-stream h.0 h.2)) (shaped-fibers h.0 h.2)

@@ -1,0 +1,13 @@
+//! Tests of the blocks: tokens in, tokens out, for every kind.
+#![tactic(auto)]
+
+#[cfg(test)]
+mod bench;
+#[cfg(test)]
+mod graphs;
+#[cfg(test)]
+mod kinds;
+#[cfg(test)]
+mod stored;
+#[cfg(test)]
+mod tokens;
