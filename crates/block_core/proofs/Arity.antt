@@ -1,11 +1,11 @@
 -- A kind has as many inputs and outputs as it says, and its moves are on these ports alone.
-use Rattle.std.specs.Prelude.{◌≡◌, ◌<◌, ℕ, zero, suc, ◌+◌, Bool, true, false, List, [], ◌∷◌, ◌++◌, length, slice_get, Some, eqb, cond, get_or, refl}
+use Rattle.std.specs.Prelude.{◌≡◌, ◌<◌, ℕ, zero, suc, ◌+◌, Bool, true, false, List, [], ◌∷◌, length, slice_get, Some, eqb, cond, refl}
 use mathlib.Core.List.{map}
 use Rattle.std.proofs.Common.{arith, sym, ◌∙◌, ap, length-append}
 use Rattle.stream_tokens.specs.declared.Token.{Token}
-use Rattle.block_core.specs.Move.{Move, Taking, Putting, takes, puts, over}
+use Rattle.block_core.specs.Move.{Move, Taking, Putting, takes, puts}
 use Rattle.block_core.specs.Ports.{Streams, port}
-use Rattle.block_core.specs.Merge.{Sides, left_of, right_of, merged_of, side_streams, merge_inputs, merge_outputs}
+use Rattle.block_core.specs.Merge.{Sides, left_of, right_of, side_streams, merge_inputs}
 use Rattle.block_core.specs.Kind.{Kind, RootKind, ScanKind, RepeatKind, CastKind, DrainKind, IntersectKind, UnionKind, ArrayKind, AluKind, ConstKind, SumScalarKind, SumVectorKind, SumMatrixKind, DropValueKind, DropFiberKind, FillKind, WriteLevelKind, WriteValueKind, ins_of, outs_of, Reading, reading, given, made, Fits, outputs, moves}
 use Rattle.block_core.proofs.Rows.{length-over}
 use Rattle.block_core.proofs.Passing.{eqb-self}

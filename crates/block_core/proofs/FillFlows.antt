@@ -10,7 +10,7 @@ use Rattle.stream_tokens.specs.Shapes.{Positive, under}
 use Rattle.block_core.specs.Move.{Move, Taking, columns}
 use Rattle.block_core.specs.Ports.{Streams}
 use Rattle.block_core.specs.Fill.{Serving, ServedPlace, Filling, place_token, stop_tokens, skips_at, head_item, stop_at, served_tokens, tail_at, port_tokens, served, parting_all, take_stops, past_takes, more_moves, serve, fill_places, fill_moves, fill_inputs, fill_outputs}
-use Rattle.block_core.specs.Flows.{Flows, NoTokens}
+use Rattle.block_core.specs.Flows.{Flows}
 use Rattle.block_core.proofs.Rows.{none-over, front-at, next-at, moved, take-last, put-across}
 use Rattle.block_core.proofs.After.{after, after-under}
 

@@ -1,23 +1,22 @@
 -- What fill gives of a presence, and of ports whose fibers that aren't empty are as many as the presence has items.
-use Rattle.std.specs.Prelude.{◌≡◌, ◌<◌, ◌≤◌, ℕ, zero, suc, ◌+◌, Bool, true, false, cond, List, [], ◌∷◌, ◌++◌, Some, None, get_or, length, refl}
-use Rattle.std.specs.List.{filter}
+use Rattle.std.specs.Prelude.{◌≡◌, ◌<◌, ℕ, suc, ◌+◌, List, [], ◌∷◌, ◌++◌, Some, None, get_or, length, refl}
 use mathlib.Core.List.{map}
 use Rattle.std.proofs.Common.{arith, inl, sym, ◌∙◌, ap, subst}
 use Rattle.stream_tokens.specs.declared.Token.{Token}
-use Rattle.stream_tokens.specs.declared.Token.TheVariants.{Item, Stop, Done}
+use Rattle.stream_tokens.specs.declared.Token.TheVariants.{Item, Done}
 use Rattle.stream_tokens.specs.Nest.{Leaf, leaf, Fiber, beneath}
-use Rattle.stream_tokens.specs.Flat.{fiber_tokens, closed, flat, fibers_of}
-use Rattle.stream_tokens.specs.Shapes.{on_tokens, on_fibers, beneath_by, under, Positive}
+use Rattle.stream_tokens.specs.Flat.{fiber_tokens, closed, flat}
+use Rattle.stream_tokens.specs.Shapes.{under, Positive}
 use Rattle.stream_tokens.proofs.Fibers.{fibers_of-flat}
 use Rattle.stream_tokens.proofs.Algebra.{flat-on_tokens, on_fibers-under, map-map}
 use Rattle.block_core.specs.Move.{over, columns}
 use Rattle.block_core.specs.Ports.{Streams, port, ports, AllStreams, numbers_of}
 use Rattle.block_core.specs.Fill.{Chunk, Serving, ServedPlace, Filling, chunks, tail_of, rows, serving, dealt, undealt, deal, filling, fill_reading, place_token, stop_tokens, skips_at, head_item, stop_at, served_tokens, tail_at, port_tokens, fill_inputs, served, fill_outputs}
-use Rattle.block_core.specs.Kind.{FillKind, Fits, outputs}
+use Rattle.block_core.specs.Kind.{FillKind}
 use Rattle.block_core.proofs.Readings.{items-read}
 use Rattle.block_core.proofs.MergeReadings.{over-at, over-ext, map-over}
 use Rattle.block_core.proofs.Given.{Gives}
-use Rattle.block_core.proofs.FillReadings.{rows-cons, rows-none, first_of, after_first, no-first, chunk_tokens, tokens-chunked, contents, content, chunk-contents, Full, chunks-full, Serves, AllServe, row-serves, no_chunk}
+use Rattle.block_core.proofs.FillReadings.{rows-cons, rows-none, first_of, after_first, chunk_tokens, tokens-chunked, contents, content, chunk-contents, Full, chunks-full, Serves, AllServe, row-serves, no_chunk}
 
 -- ---- each serving, beside the chunk of a port
 

@@ -1,22 +1,15 @@
 -- The ports of fill, read as chunks, and what each item of the presence is served of them.
-use Rattle.std.specs.Prelude.{◌≡◌, ◌⊎◌, ◌<◌, ℕ, zero, suc, ◌+◌, Bool, true, false, cond, List, [], ◌∷◌, ◌++◌, Some, None, get_or, length, refl}
-use Rattle.std.specs.List.{filter}
+use Rattle.std.specs.Prelude.{◌≡◌, ◌<◌, ℕ, zero, suc, List, [], ◌∷◌, get_or, length, refl}
 use mathlib.Core.List.{map}
-use Rattle.std.proofs.Common.{arith, inl, sym, ◌∙◌, ap, subst}
+use Rattle.std.proofs.Common.{arith, sym, ◌∙◌, ap, subst}
 use Rattle.stream_tokens.specs.declared.Token.{Token}
 use Rattle.stream_tokens.specs.declared.Token.TheVariants.{Item, Stop, Done}
-use Rattle.stream_tokens.specs.Nest.{Leaf, leaf, Fiber, beneath}
-use Rattle.stream_tokens.specs.Flat.{fiber_tokens, closed, flat, fibers_of}
-use Rattle.stream_tokens.specs.Shapes.{on_tokens, on_fibers, under, Positive}
-use Rattle.stream_tokens.proofs.Fibers.{fibers_of-flat}
-use Rattle.stream_tokens.proofs.Algebra.{flat-on_tokens, on_fibers-under}
-use Rattle.block_core.specs.Move.{over, columns}
-use Rattle.block_core.specs.Ports.{Streams, port, ports, AllStreams, numbers_of}
-use Rattle.block_core.specs.Fill.{Chunk, Serving, ServedPlace, Filling, skip, chunks, tail_before, tail_of, beside_rows, rows, serving_with, serving, dealt, undealt, deal, filling, fill_reading, place_token, stop_tokens, skips_at, head_item, stop_at, served_tokens, tail_at, port_tokens, port_streams, fill_inputs, served, filled_streams, fill_outputs}
-use Rattle.block_core.specs.Kind.{FillKind, Fits, outputs}
-use Rattle.block_core.proofs.Readings.{items-read}
-use Rattle.block_core.proofs.MergeReadings.{over-at, over-ext, map-over}
-use Rattle.block_core.proofs.Given.{Gives}
+use Rattle.stream_tokens.specs.Nest.{Fiber}
+use Rattle.stream_tokens.specs.Flat.{fiber_tokens, flat}
+use Rattle.stream_tokens.specs.Shapes.{Positive}
+use Rattle.block_core.specs.Move.{over}
+use Rattle.block_core.specs.Fill.{Chunk, Serving, skip, chunks, tail_before, tail_of, beside_rows, rows, serving_with, serving, stop_tokens, skips_at, stop_at}
+use Rattle.block_core.proofs.MergeReadings.{over-at, map-over}
 
 -- ---- columns as rows
 

@@ -1,15 +1,14 @@
 -- What a block gives of streams that are written over one list of fibers: the inputs fit, and the outputs are written over it too.
-use Rattle.std.specs.Prelude.{◌≡◌, ◌⊎◌, ◌<◌, ℕ, suc, ◌+◌, Bool, true, false, List, [], ◌∷◌, ◌++◌, Some, None, length, refl}
+use Rattle.std.specs.Prelude.{◌≡◌, ℕ, suc, ◌+◌, Bool, true, false, List, [], ◌∷◌, ◌++◌, length, refl}
 use Rattle.std.specs.List.{filter}
 use mathlib.Core.List.{map}
-use Rattle.std.proofs.Common.{inl, inr, sym, ◌∙◌, ap, subst}
+use Rattle.std.proofs.Common.{inl, sym, ◌∙◌, ap, subst}
 use Rattle.stream_tokens.specs.declared.Token.{Token}
 use Rattle.stream_tokens.specs.declared.Token.TheVariants.{Item}
-use Rattle.stream_tokens.specs.Nest.{Leaf, leaf, Fiber, spread, beneath}
+use Rattle.stream_tokens.specs.Nest.{Leaf, leaf, Fiber, spread}
 use Rattle.stream_tokens.specs.Flat.{flat}
-use Rattle.stream_tokens.specs.Shapes.{on_tokens, on_fibers, on_fiber, beneath_by, under, both, at_least_one, Positive, Shaped, EachToken, Each}
-use Rattle.stream_tokens.proofs.Algebra.{map-map, map-same, flat-on_tokens, on_tokens-on_tokens, under-on_tokens, both-under, Positive-under, Positive-on_fibers}
-use Rattle.block_core.specs.Move.{Move}
+use Rattle.stream_tokens.specs.Shapes.{on_tokens, on_fibers, under, both, at_least_one, Positive, Shaped}
+use Rattle.stream_tokens.proofs.Algebra.{map-same, flat-on_tokens, under-on_tokens, Positive-on_fibers}
 use Rattle.block_core.specs.Ports.{Streams, AllStreams, first_item, second_leaf, second, same}
 use Rattle.block_core.specs.Change.{ItemsBelow, on_item, referenced_value}
 use Rattle.block_core.specs.Scan.{Children, coordinates_below, references_below}
@@ -18,8 +17,8 @@ use Rattle.block_core.specs.SumVector.{vector_sum}
 use Rattle.block_core.specs.SumMatrix.{MatrixRow, matrix_sum}
 use Rattle.block_core.specs.DropValue.{has_value}
 use Rattle.block_core.specs.DropFiber.{has_fiber}
-use Rattle.block_core.specs.Merge.{Head, Sides, left_of, right_of, side_streams, sides_of, Ascends, AllAscend, AllClose, merged, merged_of}
-use Rattle.block_core.specs.Kind.{Kind, ScanKind, RepeatKind, IntersectKind, UnionKind, AluKind, ArrayKind, ConstKind, CastKind, DrainKind, SumScalarKind, SumVectorKind, SumMatrixKind, DropValueKind, DropFiberKind, WriteLevelKind, WriteValueKind, Reading, reading, given, made, played, Well, outputs, moves, Fits}
+use Rattle.block_core.specs.Merge.{Head, left_of, right_of, side_streams, sides_of, Ascends, AllAscend, AllClose, merged, merged_of}
+use Rattle.block_core.specs.Kind.{Kind, ScanKind, RepeatKind, IntersectKind, UnionKind, AluKind, ArrayKind, ConstKind, CastKind, DrainKind, SumScalarKind, SumVectorKind, SumMatrixKind, DropValueKind, DropFiberKind, WriteLevelKind, WriteValueKind, Reading, reading, given, made, Well, outputs, Fits}
 use Rattle.block_core.proofs.Readings.{scan-read, repeat-read, alu-read, sumscalar-read, sumvector-read, summatrix-read, dropvalue-read, dropfiber-read, level-read, Pieces, Shaped-on_tokens}
 use Rattle.block_core.proofs.MergeReadings.{merge-read, Wide}
 

@@ -1,12 +1,12 @@
 -- The moves of intersect and union flow.
-use Rattle.std.specs.Prelude.{◌≡◌, ℕ, zero, suc, ◌+◌, Bool, true, false, List, [], ◌∷◌, ◌++◌, length, nat_lt, if◌then◌else◌, refl}
+use Rattle.std.specs.Prelude.{◌≡◌, ℕ, suc, ◌+◌, Bool, true, false, List, [], ◌∷◌, ◌++◌, length, nat_lt, if◌then◌else◌}
 use mathlib.Core.List.{map}
-use Rattle.std.proofs.Common.{sym, ap, subst}
+use Rattle.std.proofs.Common.{sym, subst}
 use Rattle.stream_tokens.specs.declared.Token.{Token}
 use Rattle.stream_tokens.specs.declared.Token.TheVariants.{Stop, Done}
 use Rattle.stream_tokens.specs.Nest.{Fiber}
 use Rattle.stream_tokens.specs.Flat.{fiber_tokens, flat}
-use Rattle.block_core.specs.Move.{Move, take_row, put_row, over, columns}
+use Rattle.block_core.specs.Move.{Move, take_row, put_row, columns}
 use Rattle.block_core.specs.Ports.{Streams}
 use Rattle.block_core.specs.Merge.{Head, Sides, left_of, right_of, head_token, row, Ascends, SidesFit, AllClose, AllAscend, head_of, merged, merged_of, next_row, put_alone, right_moves, along_moves, fiber_merge, merge_moves, merge_inputs, merge_outputs}
 use Rattle.block_core.specs.Flows.{Flows, NoTokens}

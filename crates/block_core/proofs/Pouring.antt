@@ -1,12 +1,11 @@
 -- One move more of a burst.
-use Rattle.std.specs.Prelude.{◌≡◌, ◌<◌, ◌≤◌, ℕ, zero, suc, ◌+◌, Bool, true, false, cond, Option, Some, List, [], ◌∷◌, ◌++◌, length, take, drop, slice_get, refl, Result, Ok, Err, IfOk, IfErr}
+use Rattle.std.specs.Prelude.{◌≡◌, ℕ, zero, suc, ◌+◌, Bool, true, false, cond, Option, Some, List, [], ◌∷◌, ◌++◌, take, drop, slice_get, refl, Result, Ok, Err, IfErr}
 use Rattle.std.proofs.Common.{arith, sym, ◌∙◌, ap, subst, append-nil}
 use Rattle.std.proofs.lemmas.List.{take-append-drop}
 use Rattle.std.proofs.lemmas.Bool.{eq-eqb}
-use Rattle.std.proofs.Math.Logic.{∥∥₁_elim, ∥∥₁_map}
+use Rattle.std.proofs.Math.Logic.{∥∥₁_map}
 use Rattle.stream_tokens.specs.declared.Token.{Token}
-use Rattle.block_core.specs.declared.Wish.{Wish}
-use Rattle.block_core.specs.declared.Wish.TheVariants.{Take, Put, Finished}
+use Rattle.block_core.specs.declared.Wish.TheVariants.{Take, Put}
 use Rattle.block_core.specs.Move.{Move, Taking, Putting, wish_of, takes}
 use Rattle.block_core.specs.Ports.{Streams}
 use Rattle.block_core.specs.Kind.{Kind, moves}

@@ -1,8 +1,7 @@
 -- What shows that a block stands where its contract says.
 use Rattle.std.specs.Prelude.{◌≡◌, ℕ, zero, suc, ◌+◌, ◌≤◌, ◌<◌, List, [], ◌∷◌, length, drop, slice_get, Some}
-use Rattle.std.proofs.Common.{arith, sym, ◌∙◌, subst, add-one}
+use Rattle.std.proofs.Common.{arith, sym, subst, add-one}
 use Rattle.stream_tokens.specs.declared.Token.{Token}
-use Rattle.block_core.specs.declared.Wish.{Wish}
 use Rattle.block_core.specs.Move.{Move, Taking, Putting, wish_of}
 use Rattle.block_core.specs.Ports.{Streams}
 use Rattle.block_core.specs.Kind.{Kind, Fits, moves}

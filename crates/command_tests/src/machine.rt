@@ -7,9 +7,9 @@ ghost use Rattle.inputs.specs.Tensors.{AreStored};
 ghost use Rattle.stepper.specs.Capacity.{IsCapacity};
 
 use crate::cases::{PRODUCT, VECTORS, files, name, prints};
-use inputs::{program, storages};
 use any_block::{AnyBlock, assemble};
 use custard_lower::lower;
+use inputs::{program, storages};
 use levels::Storage;
 use sam_base::{Items, Nums};
 use sam_model::Program;

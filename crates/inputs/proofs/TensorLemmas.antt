@@ -1,8 +1,7 @@
 -- Entries as they are kept, and tensors as they are stored.
-use Rattle.std.proofs.Common.{◌≡◌, ℕ, zero, suc, ◌+◌, ◌*◌, ◌≤◌, ◌<◌, Bool, true, false, List, [], ◌∷◌, ◌++◌, length, take, drop, refl, sym, ap, subst, ◌∙◌, arith, inl, inr}
-use Rattle.std.specs.Prelude.{◌⊎◌, Option, Result, Ok, Err, nat_le, if◌then◌else◌}
+use Rattle.std.proofs.Common.{◌≡◌, ℕ, zero, suc, ◌+◌, ◌*◌, ◌≤◌, ◌<◌, Bool, true, false, List, [], ◌∷◌, ◌++◌, length, take, drop, refl, sym, ap, ◌∙◌, arith, inl, inr}
+use Rattle.std.specs.Prelude.{Option, Result, Ok, Err, nat_le, if◌then◌else◌}
 use Rattle.std.specs.List.{flat_map, list_all, range_with_len}
-use Rattle.std.proofs.lemmas.Bool.{and_parts}
 use Rattle.std.proofs.lemmas.Bool.Decides.{nat_tests}
 use Rattle.std.proofs.lemmas.List.{length-drop, take-append-drop}
 use mathlib.Core.List.{map}
@@ -13,7 +12,6 @@ use Rattle.sam_base.specs.declared.TheConstants.{POSITIONS_MOST}
 use Rattle.sam_io.specs.Outside.{Told}
 use Rattle.sam_model.specs.declared.tensors.Tensor.{Tensor}
 use Rattle.sam_model.specs.declared.tensors.Entries.{Entries}
-use Rattle.sam_model.specs.Lists.{below}
 use Rattle.sam_model.specs.Tensors.{entry_list, stored_as, stored_prefixes}
 use Rattle.sam_model.specs.Denote.{stored_of}
 use Rattle.sam_model.specs.Children.{Ranked, ranked}
@@ -22,7 +20,7 @@ use Rattle.sam_io.specs.Spans.{FilesSpan}
 use Rattle.parts.specs.Parts.{each_part}
 use Rattle.parts.specs.Answers.{Comes}
 use Rattle.parts.proofs.DueLemmas.{ok_same}
-use Rattle.inputs.specs.Tensors.{kept_entries, is_storable, storable, tensor_part, stored_part, AreStored}
+use Rattle.inputs.specs.Tensors.{kept_entries, storable, tensor_part, stored_part, AreStored}
 
 -- ---- entries as they are kept
 

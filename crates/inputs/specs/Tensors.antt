@@ -1,5 +1,5 @@
 -- The tensors of a program, as parts.
-use Rattle.std.specs.Prelude.{◌≡◌, ◌*◌, ℕ, suc, Bool, true, List, Option, Some, None, Result, Ok, Err, length, nat_le, if◌then◌else◌}
+use Rattle.std.specs.Prelude.{◌≡◌, ℕ, suc, Bool, List, Option, Some, None, Result, Ok, Err, length, nat_le, if◌then◌else◌}
 use Rattle.std.specs.List.{flat_map, list_all}
 use mathlib.Core.List.{map}
 use Rattle.sam_base.specs.declared.faults.Fault.{Fault}

@@ -8,7 +8,7 @@ use Rattle.std.proofs.lemmas.List.{length-map}
 use Rattle.sam_model.specs.declared.tensors.Tensor.{Tensor}
 use Rattle.sam_model.specs.declared.tensors.Entries.{Entries}
 use Rattle.sam_model.specs.Lists.{below, smaller, tuples}
-use Rattle.sam_model.specs.Tensors.{Stored, is_stored, value_at, stored_prefixes, stored_as}
+use Rattle.sam_model.specs.Tensors.{Stored, stored_prefixes, stored_as}
 use Rattle.sam_model.specs.Children.{Ranked, ranked, children_of}
 use Rattle.levels.specs.declared.rows.Row.{Row}
 use Rattle.levels.specs.declared.level.Level.{Level}

@@ -12,7 +12,6 @@ use Rattle.sam_base.specs.Each.{Each}
 use Rattle.sam_model.proofs.Lists.{Each-append, Each-weaker, map-ext-each}
 use Rattle.levels.specs.Sorted.{Sorted}
 use Rattle.levels.specs.Pairs.{same_pair, ends_with, with_pair, with_pairs, before}
-use Rattle.levels.proofs.PairLemmas.{range-inside}
 use Rattle.levels.proofs.Views.{before-split}
 
 -- ---- the last pair

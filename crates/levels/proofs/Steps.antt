@@ -15,7 +15,6 @@ use Rattle.sam_model.proofs.Lists.{map-flat_map, flat_map-ext-each, filter-all-e
 use Rattle.levels.specs.Sorted.{Sorted}
 use Rattle.levels.specs.Placed.{list_at, pairs_at}
 use Rattle.levels.specs.Pairs.{same_pair, pair_below, NotAfter}
-use Rattle.levels.proofs.Orders.{same_list-self, same_list-true}
 use Rattle.levels.proofs.Prefixes.{longer, next_prefixes, prefixes-more, stored-dense}
 use Rattle.levels.proofs.Ascending.{Ascending, ascending-at, same-place, prefixes-long, number_all, children-numbered}
 use Rattle.levels.proofs.PairLemmas.{has, pairs_by}

@@ -13,7 +13,7 @@ use Rattle.notation.specs.declared.statement.Statement.{Statement}
 use Rattle.notation.specs.declared.state.Part.{Part}
 use Rattle.notation.specs.declared.state.State.{State}
 use Rattle.notation.specs.declared.state.State.TheVariants as s
-use Rattle.notation.specs.Positions.{with_factor, with_var, part_term, whole_statement, at_factor, at_operator, step_of, end_of, run, go, named_access, next_term}
+use Rattle.notation.specs.Positions.{with_factor, with_var, whole_statement, at_factor, at_operator, step_of, end_of, run, go, named_access, next_term}
 use Rattle.notation.specs.Spelling.{Mark, bare_mark, separated, var, access_marks, factor, factors, sign, terms, FitTerm, Fit, Marked, Spells}
 
 one : (end : ℕ) (here there : State) (x : Placed) (xs : List Placed) (token : Token) → x.token ≡ token → step_of here token x.place ≡ Ok there → run end here (x ∷ xs) ≡ run end there xs

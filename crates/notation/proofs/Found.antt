@@ -16,7 +16,7 @@ use Rattle.notation.specs.Refusals.{NoteRefusal}
 use Rattle.notation.specs.declared.state.Part.{Part}
 use Rattle.notation.specs.declared.state.State.{State}
 use Rattle.notation.specs.declared.state.State.TheVariants as s
-use Rattle.notation.specs.Positions.{with_factor, with_var, part_term, whole_statement, at_factor, at_operator, more_terms, step_of, end_of, run, go, first_term, named_access, next_term}
+use Rattle.notation.specs.Positions.{with_factor, part_term, whole_statement, at_factor, at_operator, more_terms, step_of, end_of, run, go, first_term, named_access, next_term}
 use Rattle.notation.specs.Spelling.{Mark, bare_mark, separated, var, variables, name, access_marks, factor, factors, sign, terms, spelling, FitTerm, At, Marked, Spells}
 
 -- all of them, each with a mark behind it

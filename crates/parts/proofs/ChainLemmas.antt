@@ -1,7 +1,7 @@
 -- Answers of parts are answers of the chain.
 use Rattle.std.proofs.lemmas.List.{take_more, take-append-drop}
 use Rattle.std.proofs.Math.Seq.{drop-cons}
-use Rattle.std.proofs.Common.{◌+◌, ◌++◌, suc, take, drop, get_or, ◌≡◌, ◌∙◌, ◌≤◌, ◌<◌, ℕ, inl, inr, ap, refl, sym, subst, arith, List, [], ◌∷◌, length}
+use Rattle.std.proofs.Common.{◌+◌, ◌++◌, suc, take, drop, get_or, ◌∙◌, ◌≤◌, ◌<◌, ℕ, inl, inr, ap, refl, sym, subst, arith, List, [], ◌∷◌, length}
 use Rattle.std.specs.Prelude.{Option, Result, Ok, Err}
 use Rattle.sam_base.specs.declared.faults.Fault.{Fault}
 use Rattle.sam_base.specs.declared.faults.Fault.TheVariants.{Missing, ReadFault}
@@ -26,7 +26,7 @@ module _ (whole rest : FilesSpan) (is_rest : IsRest whole rest) where
       (rose_wider whole.misses_before rest.misses_before rest.misses_now is_rest.misses rose)
   wider (ReadFault n) (rose, place) = (
     subst (Rose whole.faults_before) is_rest.faults_now
-    (rose_wider whole.faults_before rest.faults_before rest.faults_now is_rest.faults rose),
+        (rose_wider whole.faults_before rest.faults_before rest.faults_now is_rest.faults rose),
     subst (IsAt n) is_rest.place place,
   )
   wider _ rose = tt

@@ -4,7 +4,6 @@ use Rattle.std.specs.Prelude.{◌⊎◌, Option, Some, None, Result, Ok, Err, Is
 use Rattle.sam_base.specs.declared.faults.Fault.{Fault}
 use Rattle.sam_base.specs.declared.faults.Fault.TheVariants.{Missing, ReadFault, OutOfMemory}
 use Rattle.sam_base.specs.declared.TheConstants.{FILE_MOST}
-use Rattle.sam_base.specs.Causes.{Rose}
 use Rattle.sam_io.specs.Outside.{Told, Tells, Lacks, LongerThan}
 use Rattle.sam_io.specs.Spans.{FilesSpan}
 use Rattle.parts.specs.Parts.{Part, gives, followed, each_part, reads}

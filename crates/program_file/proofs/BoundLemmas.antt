@@ -1,14 +1,14 @@
 -- Variables that are bound, and their places in the loops.
-use Rattle.std.proofs.Common.{◌≡◌, ℕ, zero, suc, ◌+◌, ◌-◌, ◌<◌, ◌≤◌, List, [], ◌∷◌, ◌++◌, length, slice_index, Bool, true, false, not, ◌&&◌, ◌||◌, ◌==◌, cond, Option, Some, None, Result, Ok, Err, refl, sym, ap, subst, ◌∙◌, arith, ◌⊎◌, inl, inr, nat_le, nat_lt, eqb, count_by, fold}
-use Rattle.std.specs.List.{list_all, list_any, position_or_len, range_with_len}
+use Rattle.std.proofs.Common.{◌≡◌, ℕ, zero, suc, ◌+◌, ◌-◌, ◌<◌, ◌≤◌, List, [], ◌∷◌, ◌++◌, length, slice_index, Bool, true, false, not, ◌&&◌, ◌||◌, ◌==◌, cond, Option, Some, None, refl, sym, ap, subst, ◌∙◌, arith, ◌⊎◌, inl, inr, eqb, count_by, fold}
+use Rattle.std.specs.List.{list_all, range_with_len}
 use Rattle.std.specs.Str.{bytes_eq}
 use Rattle.std.proofs.Math.Numerals.{one-add}
-use Rattle.std.proofs.lemmas.Bool.{and_parts, and_from, or_parts, or_from, or_left, or_right, or_cases, not-true, not-false, not_from_false, eqb-true, eq-eqb, ne_eqb, lt-ltb, ltb-true, both_ways, false_from_ne_true, false≢true, cond-true, cond-false, not_from_true}
+use Rattle.std.proofs.lemmas.Bool.{and_parts, and_from, or_parts, or_left, or_right, or_cases, not-true, not-false, not_from_false, eqb-true, eq-eqb, lt-ltb, both_ways, false_from_ne_true, false≢true, cond-true, cond-false, not_from_true}
 use Rattle.std.proofs.lemmas.Slice.Eq.{bytes_eq-Decides}
 use Rattle.std.proofs.lemmas.List.{length-map}
 use mathlib.Core.List.{map}
 use Rattle.sam_model.specs.declared.tensors.Tensor.{Tensor}
-use Rattle.sam_model.specs.Lists.{is_in, items_at}
+use Rattle.sam_model.specs.Lists.{is_in}
 use Rattle.sam_model.specs.Accepted.{is_named, distinct_names, distinct, variables_fit, tensor_passes}
 use Rattle.program_file.specs.declared.accesses.Variable.{Variable}
 use Rattle.program_file.specs.Accesses.{is_variable, is_known, repeated_variable, differs, mismatched, with_variables, tensor_named}

@@ -1,17 +1,17 @@
 -- The accesses of an accepted program are bound.
-use Rattle.std.proofs.Common.{◌≡◌, ℕ, zero, suc, ◌+◌, ◌-◌, ◌^◌, ◌<◌, ◌≤◌, min, List, [], ◌∷◌, ◌++◌, length, slice_index, Bool, true, false, not, ◌&&◌, ◌||◌, ◌==◌, cond, Option, Some, None, Result, Ok, Err, refl, sym, ap, subst, ◌∙◌, arith, nat_lt}
-use Rattle.std.specs.List.{list_all, list_any, position_or_len}
+use Rattle.std.proofs.Common.{◌≡◌, ℕ, suc, ◌+◌, ◌-◌, ◌^◌, ◌<◌, ◌≤◌, min, List, [], ◌∷◌, length, slice_index, Bool, true, false, not, ◌||◌, ◌==◌, cond, Option, Some, None, Ok, refl, sym, ap, subst, ◌∙◌, arith, nat_lt}
+use Rattle.std.specs.List.{list_all, list_any}
 use Rattle.std.specs.Str.{bytes_eq}
 use Rattle.std.proofs.Math.Numerals.{one-add}
 use Rattle.std.proofs.lemmas.Bool.{and_parts, or_parts, or_left, or_right, not-true, eqb-true, eq-eqb, ltb-true, both_ways, false_from_ne_true, cond-true, cond-false}
 use Rattle.std.proofs.lemmas.List.{length-map}
 use Rattle.std.proofs.lemmas.List.Sums.{prefix_len-le-length}
 use mathlib.Core.List.{map}
-use Rattle.sam_base.specs.declared.faults.ProgramKind.TheVariants.{ArityMismatch, RepeatedVariable, DimMismatch}
+use Rattle.sam_base.specs.declared.faults.ProgramKind.TheVariants.{RepeatedVariable, DimMismatch}
 use Rattle.sam_model.specs.declared.tensors.Tensor.{Tensor}
 use Rattle.sam_model.specs.declared.program.Term.{Term}
-use Rattle.sam_model.specs.Lists.{is_in, items_at}
-use Rattle.sam_model.specs.Accepted.{is_named, is_taken, distinct, ascending, variables_fit, access_fits, tensor_passes, factor_fits, factor_reduces, is_access, term_has, term_fits}
+use Rattle.sam_model.specs.Lists.{is_in}
+use Rattle.sam_model.specs.Accepted.{is_named, is_taken, distinct, variables_fit, access_fits, tensor_passes, factor_fits, factor_reduces, is_access, term_has, term_fits}
 use Rattle.notation.specs.declared.statement.AccessText.{AccessText}
 use Rattle.notation.specs.declared.statement.FactorText.{FactorText}
 use Rattle.notation.specs.declared.statement.FactorText.TheVariants.{Access, Literal}

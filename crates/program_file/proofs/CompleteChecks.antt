@@ -1,12 +1,11 @@
 -- The checks of an accepted program find no fault.
-use Rattle.std.proofs.Common.{◌≡◌, ℕ, zero, suc, ◌+◌, ◌^◌, ◌<◌, ◌≤◌, List, [], ◌∷◌, ◌++◌, length, Bool, true, false, not, ◌&&◌, ◌||◌, ◌==◌, cond, Option, Some, None, refl, sym, ap, subst, ◌∙◌, arith, ◌⊎◌, inl, inr, nat_lt, nat_le, eqb, count_by}
+use Rattle.std.proofs.Common.{◌≡◌, ℕ, zero, suc, ◌+◌, ◌^◌, ◌<◌, ◌≤◌, List, [], ◌∷◌, ◌++◌, length, Bool, true, false, not, ◌&&◌, ◌||◌, cond, Option, Some, None, refl, sym, ap, subst, ◌∙◌, arith, ◌⊎◌, inl, inr, nat_lt, eqb}
 use Rattle.std.specs.List.{list_all, list_any, range_with_len}
 use Rattle.std.specs.Str.{bytes_eq}
-use Rattle.std.proofs.lemmas.Bool.{cases_lt, and_parts, and_from, or_parts, or_left, or_right, or_cases, not-true, not_from_false, eqb-true, eq-eqb, leb-true, le-ltb, both_ways, false≢true, cond-true, cond-false}
-use Rattle.std.proofs.lemmas.List.{length-map, length_push}
+use Rattle.std.proofs.lemmas.Bool.{cases_lt, and_parts, and_from, or_left, or_right, or_cases, eqb-true, eq-eqb, leb-true, le-ltb, false≢true, cond-true, cond-false}
+use Rattle.std.proofs.lemmas.List.{length-map}
 use mathlib.Core.List.{map}
-use Rattle.sam_base.specs.declared.faults.ProgramKind.{ProgramKind}
-use Rattle.sam_base.specs.declared.faults.ProgramKind.TheVariants.{NoAccess, MissingResultVariable}
+use Rattle.sam_base.specs.declared.faults.ProgramKind.TheVariants.{MissingResultVariable}
 use Rattle.sam_model.specs.declared.tensors.Tensor.{Tensor}
 use Rattle.sam_model.specs.Lists.{is_in, items_at, below}
 use Rattle.sam_model.specs.Denote.{has_var}
@@ -17,11 +16,11 @@ use Rattle.notation.specs.declared.statement.FactorText.TheVariants.{Access, Lit
 use Rattle.notation.specs.declared.statement.TermText.{TermText}
 use Rattle.program_file.specs.declared.accesses.Variable.{Variable}
 use Rattle.program_file.specs.declared.files.File.{File}
-use Rattle.program_file.specs.Accesses.{is_variable, is_known, named_kind, with_variable, with_variables, tensor_named}
+use Rattle.program_file.specs.Accesses.{is_known, named_kind, with_variable, with_variables, tensor_named}
 use Rattle.program_file.specs.Checks.{is_access_text, factor_text_has, term_text_has, missing, term_fault, terms_fault, first_of, are_loops, loop_place, places, access_discordant, named_discordant, factors_discordant, terms_discordant, count_after, is_too_deep, names_deep, factors_deep, terms_deep}
-use Rattle.program_file.specs.Programs.{size_of, numbered_factor, numbered_term}
+use Rattle.program_file.specs.Programs.{numbered_factor, numbered_term}
 use Rattle.program_file.specs.Written.{access_variables, factor_variables, term_variables, variables_of}
-use Rattle.program_file.proofs.BoundLemmas.{same-name, name-same, var, named-in, in-named, place-apart, loop_at, loop-named, own-place, count-map, sized}
+use Rattle.program_file.proofs.BoundLemmas.{same-name, name-same, var, in-named, place-apart, loop_at, own-place, count-map, sized}
 use Rattle.program_file.proofs.FitLemmas.{FactorsOk, TermsOk, BindsFile}
 use Rattle.program_file.proofs.NameSets.{no-more, distinct-end}
 use Rattle.program_file.proofs.CompleteBinds.{sizes, fit-named, number-passes, term-parts}

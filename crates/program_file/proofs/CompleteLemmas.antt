@@ -1,12 +1,12 @@
 -- A text that writes an accepted program is read as that program.
-use Rattle.std.proofs.Common.{◌≡◌, ℕ, ◌+◌, ◌<◌, ◌≤◌, ◌^◌, List, length, Bool, true, false, not, ◌&&◌, ◌==◌, cond, Option, Some, None, Result, Ok, refl, sym, ap, subst, ◌∙◌, arith, nat_le, nat_lt}
+use Rattle.std.proofs.Common.{◌≡◌, ℕ, ◌+◌, ◌<◌, ◌≤◌, ◌^◌, List, length, true, false, not, ◌&&◌, ◌==◌, cond, None, Result, Ok, sym, ap, subst, ◌∙◌, arith, nat_le, nat_lt}
 use Rattle.std.specs.List.{list_all}
 use Rattle.std.specs.Str.{bytes_eq}
 use Rattle.std.proofs.lemmas.Bool.{and_parts, not-true, eqb-true, leb-true, le-ltb, cond-false}
 use Rattle.std.proofs.lemmas.List.{length-map}
 use mathlib.Core.List.{map}
 use Rattle.sam_base.specs.declared.TheConstants.{FILE_MOST, TERMS_MOST, VARIABLES_MOST}
-use Rattle.sam_base.specs.declared.faults.ProgramKind.TheVariants.{TooManyVariables, LoopsMismatch}
+use Rattle.sam_base.specs.declared.faults.ProgramKind.TheVariants.{TooManyVariables}
 use Rattle.sam_text.specs.Lines.{lines}
 use Rattle.sam_text.specs.Counted.{counted_lines}
 use Rattle.sam_model.specs.Lists.{below}
@@ -17,7 +17,7 @@ use Rattle.program_file.specs.declared.files.File.{File}
 use Rattle.program_file.specs.declared.faults.ProgramFault.{ProgramFault}
 use Rattle.program_file.specs.Refusals.{and_then, program_refused, GivesProgram}
 use Rattle.program_file.specs.Accesses.{unless}
-use Rattle.program_file.specs.Checks.{first_of, terms_fault, are_loops, places, access_discordant, terms_discordant, terms_deep}
+use Rattle.program_file.specs.Checks.{first_of, terms_fault, are_loops, places, terms_discordant, terms_deep}
 use Rattle.program_file.specs.Programs.{program_of, numbered_term, bound_of, order_fault, loops_checked, statement_checked, checked, program_reading}
 use Rattle.program_file.specs.Files.{file_reading}
 use Rattle.program_file.specs.Written.{variables_of, Writes}

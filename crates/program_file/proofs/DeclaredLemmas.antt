@@ -1,20 +1,19 @@
 -- What a file that is read declares fits.
-use Rattle.std.proofs.Common.{◌≡◌, ℕ, ◌+◌, ◌<◌, ◌≤◌, List, [], ◌∷◌, ◌++◌, length, Bool, true, false, not, ◌&&◌, ◌||◌, ◌==◌, cond, Option, Some, None, Result, Ok, Err, refl, sym, ap, subst, ◌∙◌, arith, ◌⊎◌, inl, inr, nat_le, nat_lt}
-use Rattle.std.specs.List.{list_all, list_any, slice_split}
+use Rattle.std.proofs.Common.{◌≡◌, ℕ, ◌+◌, List, [], ◌∷◌, ◌++◌, length, Bool, true, false, not, ◌&&◌, ◌==◌, cond, Option, Some, None, Result, Ok, Err, refl, sym, ap, subst, ◌∙◌, arith, ◌⊎◌, inl, inr, nat_le}
+use Rattle.std.specs.List.{list_all}
 use Rattle.std.proofs.lemmas.Bool.{and_parts, and_from, or_parts, le-leb, not-true, not-false, not_from_false, or_from, both_ways, false_from_ne_true}
 use Rattle.std.proofs.lemmas.Slice.Eq.{bytes_eq-Decides}
 use Rattle.std.specs.Str.{bytes_eq}
 use Rattle.std.proofs.lemmas.List.{length-map}
 use Rattle.std.proofs.lemmas.List.Splits.{length-slice_split}
-use mathlib.Core.List.{map}
 use Rattle.sam_text.specs.Counted.{NumberedLine}
 use Rattle.sam_text.specs.Words.{words}
 use Rattle.sam_text.specs.Names.{is_name}
 use Rattle.sam_model.specs.declared.tensors.Tensor.{Tensor}
-use Rattle.sam_model.specs.Accepted.{is_operand, is_result, is_well_formed, is_dimension, is_compressed, is_taken, distinct_tensors, declarations_fit, is_order, statement_fits, accepted}
+use Rattle.sam_model.specs.Accepted.{is_operand, is_well_formed, is_dimension, is_compressed, is_taken, distinct_tensors, declarations_fit}
 use Rattle.notation.specs.declared.statement.Statement.{Statement}
 use Rattle.program_file.specs.declared.files.File.{File}
-use Rattle.program_file.specs.Refusals.{ProgramRefusal, program_refused, and_then}
+use Rattle.program_file.specs.Refusals.{ProgramRefusal, and_then}
 use Rattle.program_file.specs.Keywords.{tensor_word, result_word, starts, others}
 use Rattle.program_file.specs.Declarations.{parts, numbers, capped, format_of, is_shape, tensor_with, scalar, tensor_of, result_of, declared, all_compressed, is_printable}
 use Rattle.program_file.specs.Files.{result_declared, declarations_in, compute_in, loops_in, end_in, file_with, parts_in}

@@ -1,24 +1,23 @@
 -- A text that is read writes an accepted program.
-use Rattle.std.proofs.Common.{◌≡◌, ℕ, suc, ◌+◌, ◌<◌, ◌≤◌, ◌^◌, List, [], ◌∷◌, ◌++◌, length, Bool, true, false, not, ◌&&◌, cond, Option, Some, None, Result, Ok, Err, refl, sym, ap, subst, ◌∙◌, arith, ◌⊎◌, inl, inr, nat_lt, IfOk, length-append}
-use Rattle.std.specs.List.{list_all, onto_first}
+use Rattle.std.proofs.Common.{◌≡◌, ℕ, suc, ◌+◌, ◌<◌, ◌≤◌, ◌^◌, List, [], ◌∷◌, ◌++◌, length, Bool, true, false, not, cond, Option, Some, None, Result, Ok, Err, refl, ap, subst, arith, inl, inr, nat_lt, IfOk, length-append}
+use Rattle.std.specs.List.{onto_first}
 use Rattle.std.proofs.lemmas.Bool.{and_from, not-false}
 use Rattle.sam_base.specs.declared.TheConstants.{FILE_MOST, VARIABLES_MOST}
 use Rattle.sam_base.specs.declared.faults.ProgramKind.{ProgramKind}
-use Rattle.sam_base.specs.declared.faults.ProgramKind.TheVariants.{TooManyVariables, LoopsMismatch}
+use Rattle.sam_base.specs.declared.faults.ProgramKind.TheVariants.{TooManyVariables}
 use Rattle.sam_text.specs.Bytes.{is_newline}
 use Rattle.sam_text.specs.Lines.{lines}
 use Rattle.sam_text.specs.Words.{words, is_skipped, behind_word}
 use Rattle.sam_text.specs.Counted.{NumberedLine, counted_lines}
 use Rattle.sam_model.specs.declared.tensors.Tensor.{Tensor}
 use Rattle.sam_model.specs.declared.program.Program.{Program}
-use Rattle.sam_model.specs.Accepted.{accepted, statement_fits, declarations_fit}
+use Rattle.sam_model.specs.Accepted.{accepted}
 use Rattle.notation.specs.declared.statement.Statement.{Statement}
 use Rattle.notation.specs.Refusals.{NoteRefusal}
 use Rattle.notation.specs.Positions.{statement_reading}
 use Rattle.notation.specs.Tokens.{tokens_of}
 use Rattle.notation.specs.Spelling.{Fit}
 use Rattle.notation.proofs.First.{ok_spells}
-use Rattle.program_file.specs.declared.accesses.Variable.{Variable}
 use Rattle.program_file.specs.declared.files.File.{File}
 use Rattle.program_file.specs.declared.faults.ProgramFault.{ProgramFault}
 use Rattle.program_file.specs.Refusals.{program_refused, and_then, GivesProgram}

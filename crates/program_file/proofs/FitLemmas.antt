@@ -1,16 +1,14 @@
 -- A file that passes the checks makes a statement that fits.
-use Rattle.std.proofs.Common.{◌≡◌, ℕ, zero, suc, ◌+◌, ◌-◌, ◌^◌, ◌<◌, ◌≤◌, min, List, [], ◌∷◌, ◌++◌, length, Bool, true, false, not, ◌&&◌, ◌||◌, ◌==◌, cond, Option, Some, None, Result, Ok, Err, refl, sym, ap, subst, ◌∙◌, arith, ◌⊎◌, inl, inr, nat_le, nat_lt, count_by}
-use Rattle.std.specs.List.{list_all, list_any, AllByRecursion, range_with_len}
+use Rattle.std.proofs.Common.{◌≡◌, ℕ, ◌-◌, ◌^◌, ◌<◌, ◌≤◌, min, List, [], ◌∷◌, length, Bool, true, false, not, ◌&&◌, ◌==◌, cond, Option, Some, None, Ok, refl, sym, subst, ◌∙◌, arith, ◌⊎◌, inl, inr, nat_lt}
+use Rattle.std.specs.List.{list_all, list_any, AllByRecursion}
 use Rattle.std.specs.Str.{bytes_eq}
-use Rattle.std.proofs.lemmas.Bool.{and_parts, and_from, or_parts, or_from, or_left, or_right, or_cases, not-true, not-false, not_from_false, eqb-true, eq-eqb, lt-ltb, ltb-false, leb-true, le-leb, both_ways, false≢true, and_cases}
+use Rattle.std.proofs.lemmas.Bool.{and_parts, and_from, or_left, or_right, or_cases, not-false, eqb-true, eq-eqb, ltb-false, le-leb, false≢true, and_cases}
 use Rattle.std.proofs.lemmas.List.{length-map}
 use mathlib.Core.List.{map}
 use Rattle.sam_base.specs.declared.faults.ProgramKind.{ProgramKind}
 use Rattle.sam_base.specs.declared.faults.ProgramKind.TheVariants.{ArityMismatch, RepeatedVariable, DimMismatch, MissingResultVariable, NoAccess}
 use Rattle.sam_model.specs.declared.tensors.Tensor.{Tensor}
-use Rattle.sam_model.specs.declared.program.Factor.{Factor}
-use Rattle.sam_model.specs.declared.program.Term.{Term}
-use Rattle.sam_model.specs.Lists.{is_in, items_at, below}
+use Rattle.sam_model.specs.Lists.{is_in, items_at}
 use Rattle.sam_model.specs.Denote.{has_var}
 use Rattle.sam_model.specs.Accepted.{access_fits, ascending, distinct_names, factor_fits, factor_reduces, is_access, is_named, reduces, stands, statement_fits, tensor_passes, term_fits, term_has, terms_have}
 use Rattle.notation.specs.declared.statement.AccessText.{AccessText}
@@ -20,8 +18,7 @@ use Rattle.notation.specs.declared.statement.TermText.{TermText}
 use Rattle.notation.specs.Spelling.{Fit, FitTerm}
 use Rattle.program_file.specs.declared.accesses.Variable.{Variable}
 use Rattle.program_file.specs.declared.files.File.{File}
-use Rattle.program_file.specs.Refusals.{ProgramRefusal, program_refused, and_then}
-use Rattle.program_file.specs.Accesses.{is_known, repeated_variable, mismatched, with_variables, tensor_named, named_kind, access_fault, unless, bind_access, bind_left, bind_named, bind_right, bind_factor, bind_factors, bind_terms}
+use Rattle.program_file.specs.Accesses.{is_known, repeated_variable, mismatched, with_variables, tensor_named, named_kind, access_fault, unless, bind_access, bind_left, bind_named, bind_right, bind_factors, bind_terms}
 use Rattle.program_file.specs.Checks.{first_of, loop_place, places, access_discordant, are_loops, count_after, factor_text_has, factors_deep, factors_discordant, is_access_text, is_too_deep, missing, named_discordant, names_deep, term_fault, term_text_has, terms_deep, terms_discordant, terms_fault}
 use Rattle.program_file.specs.Programs.{size_of, tensor_place, number_of, numbered_factor, numbered_term, program_of, bound_of, order_fault}
 use Rattle.program_file.proofs.DeclaredLemmas.{then-ok, if-ok, unless-ok, no_refusal}

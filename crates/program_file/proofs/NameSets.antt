@@ -1,7 +1,6 @@
 -- Lists of names that differ, and which of them a longer list has.
 use Rattle.std.proofs.Common.{◌≡◌, ℕ, suc, ◌≤◌, List, [], ◌∷◌, ◌++◌, length, Bool, true, false, ◌||◌, inl, inr, cond, refl, sym, subst, arith}
 use Rattle.std.specs.Str.{bytes_eq}
-use mathlib.Core.List.{map}
 use Rattle.std.proofs.lemmas.Bool.{and_parts, and_from, or_parts, or_from, or_left, or_right, or_cases, not-true, not_from_false, both_ways, false_from_ne_true}
 use Rattle.sam_model.specs.Accepted.{is_named, distinct_names}
 use Rattle.program_file.proofs.BoundLemmas.{same-name, name-same, other-name}

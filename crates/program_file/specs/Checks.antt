@@ -1,26 +1,21 @@
 -- The checks that follow when each access is right, and the program of a file.
-use Rattle.std.specs.Prelude.{ℕ, ◌-◌, ◌^◌, min, Bool, true, false, not, ◌&&◌, ◌||◌, ◌==◌, nat_lt, List, [], ◌∷◌, ◌++◌, length, if◌then◌else◌, count_by, Option, Some, None, Result, Ok, Err}
+use Rattle.std.specs.Prelude.{ℕ, Bool, true, false, not, ◌&&◌, ◌==◌, nat_lt, List, [], ◌∷◌, length, if◌then◌else◌, count_by, Option, Some, None}
 use Rattle.std.specs.List.{list_all, list_any, position_or_len}
 use Rattle.std.specs.Str.{bytes_eq}
 use mathlib.Core.List.{map}
 use Rattle.sam_base.specs.declared.faults.ProgramKind.{ProgramKind}
-use Rattle.sam_base.specs.declared.faults.ProgramKind.TheVariants.{NoAccess, MissingResultVariable, TooManyVariables, LoopsMismatch, Discordant, ReducerTooDeep, BadLine}
+use Rattle.sam_base.specs.declared.faults.ProgramKind.TheVariants.{NoAccess, MissingResultVariable, Discordant, ReducerTooDeep}
 use Rattle.sam_model.specs.declared.tensors.Tensor.{Tensor}
 use Rattle.sam_model.specs.declared.program.Factor.{Factor}
 use Rattle.sam_model.specs.declared.program.Factor.TheVariants as model
-use Rattle.sam_model.specs.declared.program.Term.{Term}
-use Rattle.sam_model.specs.declared.program.Program.{Program}
 use Rattle.sam_model.specs.Lists.{items_at}
-use Rattle.sam_model.specs.Accepted.{is_named, distinct_names, ascending, accepted}
+use Rattle.sam_model.specs.Accepted.{is_named, distinct_names, ascending}
 use Rattle.notation.specs.declared.statement.AccessText.{AccessText}
 use Rattle.notation.specs.declared.statement.FactorText.{FactorText}
 use Rattle.notation.specs.declared.statement.FactorText.TheVariants.{Access, Literal}
 use Rattle.notation.specs.declared.statement.TermText.{TermText}
 use Rattle.program_file.specs.declared.accesses.Variable.{Variable}
-use Rattle.program_file.specs.declared.files.File.{File}
-use Rattle.program_file.specs.Refusals.{ProgramRefusal, program_refused, and_then}
-use Rattle.program_file.specs.Accesses.{is_known, is_variable, tensor_named, bind_left, bind_terms, named_kind, unless}
-use Rattle.program_file.specs.Files.{file_reading}
+use Rattle.program_file.specs.Accesses.{is_known, tensor_named, named_kind}
 
 abbrev pub is_access_text : FactorText → Bool
 is_access_text (Access a) = true

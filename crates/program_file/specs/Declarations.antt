@@ -1,5 +1,5 @@
 -- What a line declares.
-use Rattle.std.specs.Prelude.{ℕ, ◌-◌, ◌^◌, min, Bool, true, false, not, ◌&&◌, ◌||◌, ◌==◌, nat_le, List, [], ◌∷◌, length, if◌then◌else◌, Option, Some, None, Result, Ok, Err}
+use Rattle.std.specs.Prelude.{ℕ, ◌-◌, ◌^◌, min, Bool, not, ◌&&◌, ◌||◌, ◌==◌, nat_le, List, [], ◌∷◌, length, if◌then◌else◌, Option, Some, None, Result, Ok}
 use Rattle.std.specs.List.{list_all, slice_split}
 use mathlib.Core.List.{map}
 use Rattle.sam_base.specs.declared.faults.ProgramKind.TheVariants.{BadLine, DimensionRange, DuplicateName, DenseResult}

@@ -1,11 +1,11 @@
 -- The program of a file, and the first fault of a text.
-use Rattle.std.specs.Prelude.{ℕ, ◌-◌, ◌^◌, min, Bool, true, false, not, nat_lt, List, [], ◌∷◌, length, if◌then◌else◌, Option, Some, None, Result, Ok, Err}
+use Rattle.std.specs.Prelude.{ℕ, ◌-◌, ◌^◌, min, not, nat_lt, List, [], ◌∷◌, length, if◌then◌else◌, Option, Result, Ok}
 use Rattle.std.specs.List.{position_or_len}
 use Rattle.std.specs.Str.{bytes_eq}
 use mathlib.Core.List.{map}
 use Rattle.sam_base.specs.declared.TheConstants.{VARIABLES_MOST}
 use Rattle.sam_base.specs.declared.faults.ProgramKind.{ProgramKind}
-use Rattle.sam_base.specs.declared.faults.ProgramKind.TheVariants.{TooManyVariables, LoopsMismatch, BadLine}
+use Rattle.sam_base.specs.declared.faults.ProgramKind.TheVariants.{TooManyVariables, LoopsMismatch}
 use Rattle.sam_model.specs.declared.tensors.Tensor.{Tensor}
 use Rattle.sam_model.specs.declared.program.Factor.{Factor}
 use Rattle.sam_model.specs.declared.program.Factor.TheVariants as model

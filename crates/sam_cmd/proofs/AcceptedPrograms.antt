@@ -1,13 +1,10 @@
 -- What is known of an accepted program.
-use Rattle.std.proofs.Common.{◌≡◌, ℕ, ◌≤◌, ◌<◌, true, List, [], ◌∷◌, length, refl, arith, leb}
-use Rattle.std.specs.Prelude.{◌==◌, ◌≢◌}
+use Rattle.std.proofs.Common.{◌≡◌, ℕ, true, List, [], ◌∷◌, refl, leb}
 use Rattle.std.specs.List.{list_all}
-use Rattle.std.proofs.lemmas.Bool.{and_parts, leb-true}
+use Rattle.std.proofs.lemmas.Bool.{and_parts}
 use Rattle.sam_base.specs.declared.TheConstants.{DIMENSION_MOST}
 use Rattle.sam_model.specs.declared.program.Program.{Program}
-use Rattle.sam_model.specs.Accepted.{distinct_names, stands, access_fits, is_dimension, is_well_formed, is_result, declarations_fit, statement_fits, accepted}
-use Rattle.sam_model.specs.Lists.{below}
-use Rattle.stream_model.proofs.Places.{accepted-statement}
+use Rattle.sam_model.specs.Accepted.{is_dimension, is_well_formed, is_result, declarations_fit, statement_fits, accepted}
 
 result_well : (p : Program) → accepted p ≡ true → is_well_formed p.result ≡ true
 result_well p is_accepted =

@@ -1,8 +1,7 @@
 -- A fault that was reported is an answer.
-use Rattle.std.proofs.Common.{◌≡◌, ℕ, inl, inr, List, sym, ap, ◌∙◌, subst}
-use Rattle.std.specs.Prelude.{◌⊎◌, Err}
+use Rattle.std.proofs.Common.{◌≡◌, ℕ, inl, inr, List, sym, ap, subst}
+use Rattle.std.specs.Prelude.{Err}
 use Rattle.sam_base.specs.declared.faults.Fault.{Fault}
-use Rattle.sam_base.specs.declared.faults.Fault.TheVariants.{OutOfMemory}
 use Rattle.sam_io.specs.Spans.{FilesSpan, SinkSpan}
 use Rattle.parts.specs.Answers.{Comes, Settles}
 use Rattle.sam_cmd.specs.Commands.{answer_part}
@@ -18,15 +17,15 @@ module _ (words : List (List ℕ)) (files : FilesSpan) (out err : SinkSpan) (sta
       = record { is_status = report.is_status; nothing = nothing; said = report.said } in
       elim report.which [
         | inl same ↦ record {
-            answer = Err report.told_fault;
-            comes = subst (λ f. Comes (answer_part words) files (Err f)) (sym same) comes;
-            settles = subst (λ f. Settles (answer_part words) files (Err f)) (sym same) settles;
-            leaves = left;
-          }
+          answer = Err report.told_fault;
+          comes = subst (λ f. Comes (answer_part words) files (Err f)) (sym same) comes;
+          settles = subst (λ f. Settles (answer_part words) files (Err f)) (sym same) settles;
+          leaves = left;
+        }
         | inr memory ↦ record {
-            answer = Err report.told_fault;
-            comes = inl memory;
-            settles = λ m s told due there quiet. inr (ap Err memory);
-            leaves = left;
-          }
+          answer = Err report.told_fault;
+          comes = inl memory;
+          settles = λ m s told due there quiet. inr (ap Err memory);
+          leaves = left;
+        }
       ]

@@ -1,5 +1,5 @@
 -- The commands as chains of parts: what each answers, in the order in which it may be refused.
-use Rattle.std.specs.Prelude.{◌≡◌, ◌*◌, ℕ, cond, true, List, [], ◌∷◌, codes, nat_eq, Option, Some, None, Result, Ok, Err}
+use Rattle.std.specs.Prelude.{ℕ, cond, List, [], ◌∷◌, codes, nat_eq, Result, Ok, Err}
 use Rattle.std.specs.Cmp.Lexicographic.{pointwise}
 use Rattle.sam_base.specs.declared.faults.Fault.{Fault}
 use Rattle.sam_base.specs.declared.faults.Fault.TheVariants.{Usage}

@@ -10,8 +10,8 @@ ghost use Rattle.sam_cmd.specs.Commands.{text_part, answer_part};
 ghost use Rattle.inputs.specs.Tensors.{tensor_part};
 
 use crate::command::{Command, command_of};
-use inputs::{program, storages};
 use crate::run::run_text;
+use inputs::{program, storages};
 use sam_base::{Fault, Name};
 use sam_io::Files;
 use sam_model::Program;

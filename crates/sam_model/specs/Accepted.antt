@@ -1,5 +1,5 @@
 -- Which programs are accepted.
-use Rattle.std.specs.Prelude.{ℕ, zero, suc, ◌+◌, Bool, true, false, not, ◌&&◌, ◌||◌, ◌==◌, List, [], ◌∷◌, length, slice_index, nat_le, nat_lt, count_by}
+use Rattle.std.specs.Prelude.{ℕ, zero, suc, Bool, true, false, not, ◌&&◌, ◌||◌, ◌==◌, List, [], ◌∷◌, length, slice_index, nat_le, nat_lt, count_by}
 use Rattle.std.specs.List.{list_all, list_any}
 use Rattle.std.specs.Str.{bytes_eq}
 use Rattle.sam_base.specs.declared.TheConstants.{DIMENSION_MOST, FACTORS_MOST, TERMS_MOST, VARIABLES_MOST}

@@ -1,7 +1,7 @@
 -- The number of digits.
 use Rattle.std.proofs.Common.{Option, Some, None, Result, Ok, Err, ◌^◌, subst, nat_lt, cond, ◌&&◌, ◌⊎◌, inl, inr, ◌≡◌, ℕ, zero, suc, ◌+◌, ◌-◌, ◌*◌, ◌<◌, ◌≤◌, List, [], ◌∷◌, length, take, drop, get_or, Bool, true, false, refl, sym, ap, ◌∙◌, arith, fold}
 use Rattle.std.specs.List.{list_all, prefix_len}
-use Rattle.std.proofs.lemmas.Bool.{and_parts, leb-true, le-ltb, cond-true, cond-false}
+use Rattle.std.proofs.lemmas.Bool.{and_parts, le-ltb, cond-true, cond-false}
 use Rattle.std.proofs.lemmas.List.Sums.{fold_more, fold-append, prefix_len_stops}
 use Rattle.std.proofs.lemmas.List.Folds.{list_all_at}
 use Rattle.std.proofs.lemmas.List.{take-append-drop}

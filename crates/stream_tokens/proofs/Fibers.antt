@@ -5,7 +5,7 @@ use mathlib.Core.List.{map}
 use Rattle.std.proofs.Common.{arith, inl, inr, sym, ◌∙◌, ap, subst, append_assoc, append-nil}
 use Rattle.stream_tokens.specs.declared.Token.{Token}
 use Rattle.stream_tokens.specs.declared.Token.TheVariants.{Stop, Done}
-use Rattle.stream_tokens.specs.Nest.{Nest, Leaf, leaf, between, joined_bodies, body, stream_end, stream, IsStream, Fiber, spread, beneath, fibers}
+use Rattle.stream_tokens.specs.Nest.{Nest, Leaf, leaf, between, joined_bodies, body, stream_end, stream, Fiber, spread, beneath, fibers}
 use Rattle.stream_tokens.specs.Flat.{fiber_tokens, closed, flat, put_leaf, fibers_of}
 use Rattle.stream_tokens.specs.Shapes.{Positive, Shaped}
 

@@ -1,6 +1,6 @@
-use Rattle.std.proofs.Common.{◌≡◌, slice_get, sym, ◌∙◌, refl, ap, [], Ok, Some, Bool, false, true}
+use Rattle.std.proofs.Common.{◌≡◌, slice_get, sym, ◌∙◌, refl, ap, [], Ok, false, true}
 use Rattle.block_core.proofs.Pouring.{first-is, poured_none, poured_take, poured_put, poured_still, poured_some, may_then, may_take_next, may_take, may_put_next, may_put, always-err}
-use Rattle.block_core.specs.Bursts.{Poured, MayPour}
+use Rattle.block_core.specs.Bursts.{Poured}
 use Rattle.block_core.proofs.BlockStep.one_by_one.Goals as goal
 use Rattle.block_core.proofs.BlockStep.one_by_one.Goals.{in-Take+in-Some+in_ok-take-in-Take, in-Put+in_ok-put-in-Put+else-not-branch}
 

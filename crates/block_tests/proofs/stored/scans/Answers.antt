@@ -1,4 +1,4 @@
-use Rattle.std.proofs.Common.{◌<◌, length, [], ◌∷◌, Some, refl, inr, lit≤, arith}
+use Rattle.std.proofs.Common.{◌<◌, length, Some, refl, inr, lit≤, arith}
 use Rattle.levels.specs.Reads.{children_at}
 use Rattle.block_tests.proofs.stored.scans.Goals as goal
 

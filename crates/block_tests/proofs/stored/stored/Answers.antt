@@ -2,7 +2,7 @@
 use Rattle.std.proofs.Common.{◌≡◌, [], length, ◌∙◌, ap}
 use Rattle.std.specs.Prelude.{slice_index}
 use Rattle.sam_model.specs.Lists.{items_at}
-use Rattle.levels.proofs.Levels.{length-mapped}
+use Rattle.std.proofs.lemmas.List.{length-map}
 use Rattle.levels.proofs.ConditionLemmas.{storable}
 use Rattle.levels.proofs.RankedLemmas.{held-levels, held-parents, held-values}
 use Rattle.block_tests.proofs.stored.stored.Goals as goal
@@ -11,19 +11,19 @@ pub returns-in-Ok-clause-counts : goal.returns-in-Ok-clause-counts
 returns-in-Ok-clause-counts c =
     let ok = storable (record { name = []; dims = c.args.dims.now; formats = c.args.formats.now; order = c.args.order.now; file = [] }) c.requires.tensor in
     let order : c.from_vec-3.result ≡ c.args.order.now = cc (c.from_vec-3.ensures, c.in_ok-from_slice-3.ensures.items) in
-    let long : length (items_at c.from_vec.result c.from_vec-3.result) ≡ length c.args.dims.now = length-mapped (slice_index c.from_vec.result) c.from_vec-3.result ∙ ap length order ∙ ok.levels in
+    let long : length (items_at c.from_vec.result c.from_vec-3.result) ≡ length c.args.dims.now = length-map c.from_vec-3.result (slice_index c.from_vec.result) ∙ ap length order ∙ ok.levels in
     held-levels _ c.in-Ok.s (length c.args.dims.now) c.in-Ok.ensures.stored long
 
 pub returns-in-Ok-clause-parents : goal.returns-in-Ok-clause-parents
 returns-in-Ok-clause-parents c =
     let ok = storable (record { name = []; dims = c.args.dims.now; formats = c.args.formats.now; order = c.args.order.now; file = [] }) c.requires.tensor in
     let order : c.from_vec-3.result ≡ c.args.order.now = cc (c.from_vec-3.ensures, c.in_ok-from_slice-3.ensures.items) in
-    let long : length (items_at c.from_vec.result c.from_vec-3.result) ≡ length c.args.dims.now = length-mapped (slice_index c.from_vec.result) c.from_vec-3.result ∙ ap length order ∙ ok.levels in
+    let long : length (items_at c.from_vec.result c.from_vec-3.result) ≡ length c.args.dims.now = length-map c.from_vec-3.result (slice_index c.from_vec.result) ∙ ap length order ∙ ok.levels in
     held-parents _ c.in-Ok.s (length c.args.dims.now) c.in-Ok.ensures.stored long
 
 pub returns-in-Ok-clause-values : goal.returns-in-Ok-clause-values
 returns-in-Ok-clause-values c =
     let ok = storable (record { name = []; dims = c.args.dims.now; formats = c.args.formats.now; order = c.args.order.now; file = [] }) c.requires.tensor in
     let order : c.from_vec-3.result ≡ c.args.order.now = cc (c.from_vec-3.ensures, c.in_ok-from_slice-3.ensures.items) in
-    let long : length (items_at c.from_vec.result c.from_vec-3.result) ≡ length c.args.dims.now = length-mapped (slice_index c.from_vec.result) c.from_vec-3.result ∙ ap length order ∙ ok.levels in
+    let long : length (items_at c.from_vec.result c.from_vec-3.result) ≡ length c.args.dims.now = length-map c.from_vec-3.result (slice_index c.from_vec.result) ∙ ap length order ∙ ok.levels in
     held-values _ c.in-Ok.s (length c.args.dims.now) c.in-Ok.ensures.stored long

@@ -10,7 +10,7 @@ returns-in-Ok-clause-comes c = λ files.
     let t = c.args.t.now in
     let read = c.in-Ok.ensures in
     sym (
-      ap (entries_in t) c.in-Some.is
-      ∙ ap (with_tensor_fault t) (ap (tns_entries t.dims) (sym c.as_bytes.ensures) ∙ read.entries)
-      ∙ ap Ok (kept_same (length t.dims) c.in-Ok.entries read.arity read.whole)
+    ap (entries_in t) c.in-Some.is
+    ∙ ap (with_tensor_fault t) (ap (tns_entries t.dims) (sym c.as_bytes.ensures) ∙ read.entries)
+    ∙ ap Ok (kept_same (length t.dims) c.in-Ok.entries read.arity read.whole)
     )

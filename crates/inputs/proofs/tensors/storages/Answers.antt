@@ -1,4 +1,4 @@
-use Rattle.std.proofs.Common.{subst, List, ℕ, sym, take, ◌+◌}
+use Rattle.std.proofs.Common.{subst, List, sym, take, ◌+◌}
 use Rattle.std.proofs.lemmas.List.{take_all}
 use Rattle.std.specs.Prelude.{Ok, Err, Option}
 use Rattle.sam_io.specs.Outside.{Told}
@@ -29,8 +29,8 @@ loop-tensor-preserved g c =
     let here = subst (λ (m : Option Told). stored_part c.tensor-item.result m (Ok c.in-Ok.storage)) inv.keeps.told c.in-Ok.ensures.comes in
     let there = subst (λ (t : Tensor). stored_part t told (Ok c.in-Ok.storage)) c.tensor-item.is here in
     let more =
-        each_more stored_part told c.args.tensors.now c.loop-tensor.tensor-index c.tensor-item.result c.loop-tensor.storages
-        c.in-Ok.storage c.loop-tensor-test.true inv.done there in
+    each_more stored_part told c.args.tensors.now c.loop-tensor.tensor-index c.tensor-item.result c.loop-tensor.storages
+    c.in-Ok.storage c.loop-tensor-test.true inv.done there in
     record {
       keeps = keeps_on g.F.Files c.args.files.now c.loop-tensor.files c.stored.new.files inv.keeps c.in-Ok.ensures.keeps;
       done =

@@ -1,8 +1,7 @@
-use Rattle.std.proofs.Common.{◌≡◌, ◌==◌, ◌+◌, ◌<◌, ◌++◌, ◌∷◌, [], ℕ, List, length, take, drop, slice_range, ap, not, arith, sym, subst, ◌∙◌}
-use Rattle.std.specs.List.{position_or_len}
+use Rattle.std.proofs.Common.{◌≡◌, ◌==◌, ◌+◌, ◌<◌, ◌++◌, ℕ, List, length, take, drop, slice_range, ap, not, arith, sym, subst, ◌∙◌}
 use Rattle.std.proofs.lemmas.List.{take_rest, drop-drop}
 use Rattle.std.proofs.lemmas.List.Sums.{prefix_len-le-length}
-use Rattle.program_file.specs.Declarations.{parts, are_decimals, numbers}
+use Rattle.program_file.specs.Declarations.{are_decimals, numbers}
 use Rattle.program_file.proofs.PartLemmas.{first_part, last_part, some_part, decimals_more, decimals_stop, decimals_last, numbers_more, numbers_last}
 use Rattle.program_file.proofs.declarations.numbers_of.Goals as goal
 

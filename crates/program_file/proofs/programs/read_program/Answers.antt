@@ -1,6 +1,3 @@
-use Rattle.std.proofs.Common.{◌≡◌, sym, subst, ap, ◌∙◌}
-use Rattle.program_file.specs.Refusals.{GivesProgram}
-use Rattle.program_file.specs.Programs.{checked}
 use Rattle.program_file.proofs.FileLemmas.{if-accepted}
 use Rattle.program_file.proofs.CompleteLemmas.{if-complete, file-read}
 use Rattle.program_file.proofs.programs.read_program.Goals as goal

@@ -15,8 +15,8 @@ returns-in-Err-clause-comes g c =
     let p = c.args.p.now in
     let span = files_span g.F.Files c.args.files.now c.storages.new.files in
     let stored =
-        subst (λ (ts : List Tensor). Comes (each_part stored_part ts) span (Err c.in-Err.fault)) c.as_slice.ensures
-        c.in-Err.ensures.comes in
+    subst (λ (ts : List Tensor). Comes (each_part stored_part ts) span (Err c.in-Err.fault)) c.as_slice.ensures
+    c.in-Err.ensures.comes in
     comes_first (each_part tensor_part p.tensors) (λ entries. gives (Ok (result_text p entries))) span c.in-Err.fault
     (comes_read span p.tensors c.in-Err.fault stored)
 
@@ -26,7 +26,7 @@ returns-in-Ok-run_text-clause-comes g c =
     let told = g.F.Files.told c.args.files.now in
     let storages = c.in-Ok.storages in
     let stored =
-        subst (λ (ts : List Tensor). each_part stored_part ts told (Ok storages)) c.as_slice.ensures c.in-Ok.ensures.comes in
+    subst (λ (ts : List Tensor). each_part stored_part ts told (Ok storages)) c.as_slice.ensures c.in-Ok.ensures.comes in
     let all = all_stored_ok told p.tensors storages stored in
     let text = c.in-Ok-run_text.ensures all.0 (record { each = all.2; are_stored = c.as_slice-in-Ok.ensures ∙ all.3 }) in
     (all.0, all.1, ap Ok text)

@@ -1,4 +1,4 @@
-use Rattle.std.proofs.Common.{◌≡◌, sym, ◌∙◌, arith}
+use Rattle.std.proofs.Common.{sym, ◌∙◌, arith}
 use Rattle.sam_model.specs.Accepted.{stands}
 use Rattle.sam_model.proofs.AcceptedLemmas.{all-more}
 use Rattle.sam_model.proofs.acceptance.all_stand.Goals as goal

@@ -1,4 +1,4 @@
-use Rattle.std.proofs.Common.{◌≡◌, ◌∙◌}
+use Rattle.std.proofs.Common.{◌∙◌}
 use Rattle.sam_model.specs.Accepted.{access_fits}
 use Rattle.sam_model.proofs.AcceptedLemmas.{passes-at, passes-past}
 use Rattle.sam_model.proofs.acceptance.numbered_fits.Goals as goal

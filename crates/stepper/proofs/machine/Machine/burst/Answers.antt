@@ -2,7 +2,7 @@ use Rattle.std.proofs.Common.{◌<◌, sym, ap, subst, length, arith, false}
 use Rattle.plays.specs.Told.{HasLists}
 use Rattle.plays.specs.Rest.{ends_at, BurstAt}
 use Rattle.stepper.specs.Bursting.{OnwardsBy}
-use Rattle.block_core.proofs.Pouring.{ok-map, err-map}
+use Rattle.std.proofs.lemmas.Result.{IfOk-weaker, IfErr-weaker}
 use Rattle.stepper.proofs.Bursting.{row_ins, row_outs, may_rows, onwards_rows, sits_on, either_way}
 use Rattle.stepper.specs.Routes.{held_of}
 use Rattle.stepper.proofs.machine.Machine.burst.Goals as goal
@@ -35,12 +35,12 @@ pub returns-clause-onwards : goal.returns-clause-onwards
 returns-clause-onwards g c =
     let lb : c.args.block < length c.self.inside.blocks.items = let e = ap (λ z. length z.blocks) c.self.view_is in omega (arith, e, c.requires.within) in
     let lists = subst (λ m. HasLists (length m.queues) (g.T.Tap.told c.args.tap.now)) (sym c.self.view_is) c.requires.lists in
-    ok-map c.burst_at.result (λ went h. subst (λ z. OnwardsBy g.B.BlockStep z (g.T.Tap.told c.args.tap.now) (held_of c.burst_at.new.blocks.items c.burst_at.new.queues.items c.burst_at.new.moves c.self.inside.plan) (g.T.Tap.told c.burst_at.new.tap) went) c.self.view_is
+    IfOk-weaker c.burst_at.result _ _ (λ went h. subst (λ z. OnwardsBy g.B.BlockStep z (g.T.Tap.told c.args.tap.now) (held_of c.burst_at.new.blocks.items c.burst_at.new.queues.items c.burst_at.new.moves c.self.inside.plan) (g.T.Tap.told c.burst_at.new.tap) went) c.self.view_is
     (onwards_rows g.B.BlockStep g.met.B.BlockStep.stands_within (held_of c.self.inside.blocks.items c.self.inside.queues.items c.self.inside.moves c.self.inside.plan) (g.T.Tap.told c.args.tap.now) c.args.block _ _ c.row-ins.ensures c.row-outs.ensures went c.burst_at.new.blocks.items c.burst_at.new.queues.items c.burst_at.new.moves (g.T.Tap.told c.burst_at.new.tap) lb lists h)) c.burst_at.ensures.poured
 
 pub returns-clause-refused : goal.returns-clause-refused
 returns-clause-refused g c =
     let lb : c.args.block < length c.self.inside.blocks.items = let e = ap (λ z. length z.blocks) c.self.view_is in omega (arith, e, c.requires.within) in
     let lists = subst (λ m. HasLists (length m.queues) (g.T.Tap.told c.args.tap.now)) (sym c.self.view_is) c.requires.lists in
-    err-map c.burst_at.result (λ e h. subst (λ z. OnwardsBy g.B.BlockStep z (g.T.Tap.told c.args.tap.now) (held_of c.burst_at.new.blocks.items c.burst_at.new.queues.items c.burst_at.new.moves c.self.inside.plan) (g.T.Tap.told c.burst_at.new.tap) false) c.self.view_is
+    IfErr-weaker c.burst_at.result _ _ (λ e h. subst (λ z. OnwardsBy g.B.BlockStep z (g.T.Tap.told c.args.tap.now) (held_of c.burst_at.new.blocks.items c.burst_at.new.queues.items c.burst_at.new.moves c.self.inside.plan) (g.T.Tap.told c.burst_at.new.tap) false) c.self.view_is
     (onwards_rows g.B.BlockStep g.met.B.BlockStep.stands_within (held_of c.self.inside.blocks.items c.self.inside.queues.items c.self.inside.moves c.self.inside.plan) (g.T.Tap.told c.args.tap.now) c.args.block _ _ c.row-ins.ensures c.row-outs.ensures false c.burst_at.new.blocks.items c.burst_at.new.queues.items c.burst_at.new.moves (g.T.Tap.told c.burst_at.new.tap) lb lists h)) c.burst_at.ensures.refused
