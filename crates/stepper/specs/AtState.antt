@@ -6,8 +6,8 @@ use Rattle.graph.specs.declared.graphs.Graph.{Graph}
 use Rattle.graph.specs.Wiring.{block, WellFormed}
 use Rattle.graph.specs.Order.{IsForwardOrder}
 use Rattle.graph.specs.WholeStreams.{Consistent}
-use Rattle.graph.specs.Standing.{StandAt}
-use Rattle.plays.specs.Net.{Net, State, WithinBounds, Waits, sum_below}
+use Rattle.graph.specs.Standing.{StandAt, start_position}
+use Rattle.plays.specs.Net.{Net, State, start, WithinBounds, Waits, sum_below}
 use Rattle.plays.specs.Held.{Table, at_port, Routes, Queued, Held}
 use Rattle.stepper.specs.NetOf.{net_of, rooms_of}
 
@@ -52,3 +52,12 @@ abbrev pub Wherever : {B : Type 0} → Ghosts B → Held B → (Net → (ℕ →
 Wherever step m P =
     (storages : List Ranked) (g : Graph) (caps : List (Option ℕ)) (s : State)
     → AtState step storages g caps s m → P (net_of storages g) (rooms_of caps) s
+
+-- for some stored tensors that fit the graph, these are its blocks before the first event
+abbrev pub OwnBlocks : {B : Type 0} → Ghosts B → Graph → List B → Type 0
+OwnBlocks step g blocks = ∥ ((storages : List Ranked) × Consistent storages g × StandAt step.kind step.stands storages g start_position blocks) ∥₁
+
+-- for all such, the machine stands at the start
+abbrev pub StartsFrom : {B : Type 0} → Ghosts B → Graph → List (Option ℕ) → List B → Held B → Type 0
+StartsFrom step g caps blocks m =
+    (storages : List Ranked) → Consistent storages g → StandAt step.kind step.stands storages g start_position blocks → AtState step storages g caps start m

@@ -1,8 +1,14 @@
 -- How a run ends.
-use Rattle.std.specs.Prelude.{ℕ, zero, suc, List, [], ◌∷◌, ◌++◌, slice_get, Option, Some, None, true, false}
+use Rattle.std.specs.Prelude.{◌≡◌, ℕ, zero, suc, List, [], ◌∷◌, ◌++◌, slice_get, Option, Some, None, true, false}
 use Rattle.sam_base.specs.declared.faults.Waiting.{Waiting}
 use Rattle.block_core.specs.Move.{Move, Taking, Putting}
-use Rattle.plays.specs.Net.{Net, State}
+use Rattle.sam_model.specs.Children.{Ranked}
+use Rattle.block_core.specs.declared.BlockStep.{Ghosts}
+use Rattle.graph.specs.declared.graphs.Graph.{Graph}
+use Rattle.graph.specs.Standing.{StandAt, final_position}
+use Rattle.plays.specs.Net.{Net, State, Finished}
+use Rattle.plays.specs.Held.{Held}
+use Rattle.stepper.specs.AtState.{AtState, Wherever}
 
 -- a block that isn't finished, and the channel of its next move: full where it would put a token, and else empty
 abbrev pub waiting_for : Net → ℕ → Option Move → List Waiting
@@ -17,3 +23,13 @@ waiting_below net s (suc n) = waiting_below net s n ++ waiting_for net n (slice_
 
 abbrev pub waiting_list : Net → State → List Waiting
 waiting_list net s = waiting_below net s net.blocks
+
+-- the blocks that aren't finished are these, and there is one
+abbrev pub StallsWith : {B : Type 0} → Ghosts B → List Waiting → Held B → Type 0
+StallsWith step list m = Wherever step m (λ net rooms s. (list ≡ waiting_list net s) × (Finished net s → ⊥))
+
+-- every block is at the end of its moves
+abbrev pub BlocksAtEnd : {B : Type 0} → Ghosts B → Held B → Type 0
+BlocksAtEnd step m =
+    (storages : List Ranked) (g : Graph) (caps : List (Option ℕ)) (s : State) → AtState step storages g caps s m
+    → StandAt step.kind step.stands storages g (final_position storages g) m.blocks

@@ -9,3 +9,4 @@ pub mod Laws
 pub mod Bursting
 pub mod AllMoves
 pub mod EndsView
+pub mod OneBlock

@@ -1,11 +1,12 @@
 //! One block or one queue of many.
 
 ghost use Rattle.std.specs.Prelude.{◌≡◌, ◌<◌, ◌+◌, ◌-◌, ℕ, false, true, [], ◌∷◌, ◌++◌, length, take, drop, set, slice_get, Some, IsOk, IsSome, IfOk, IfErr};
-ghost use Rattle.block_core.specs.Move.{Taking, Putting, wish_of};
+ghost use Rattle.block_core.specs.Move.{wish_of};
 ghost use Rattle.block_core.specs.Ports.{Streams};
 ghost use Rattle.block_core.specs.Kind.{moves};
 ghost use Rattle.plays.specs.Net.{has_room};
 ghost use Rattle.plays.specs.Held.{Queued};
+ghost use Rattle.stepper.specs.OneBlock.{MayTakeAt, TookAt, MayPutAt, PutAt};
 
 use crate::queue::Queue;
 use block_core::{BlockStep, Wish};
@@ -30,8 +31,8 @@ pub(crate) fn take_at<B: BlockStep>(
     t: Token,
 ) -> Result<(), AllocError>
     requires within { block < length blocks.old.items }
-    requires may { ∥ ((x : B) × (s : Streams) × (n : ℕ) × (slice_get blocks.old.items block ≡ Some x) × B.stands x s n × (slice_get (moves (B.kind x) s) n ≡ Some (Taking port t))) ∥₁ }
-    ensures moved { IfOk result (λ _. (x : B) → slice_get blocks.old.items block ≡ Some x → (y : B) × (blocks.new.items ≡ set blocks.old.items block y) × (B.kind y ≡ B.kind x) × ((s : Streams) (n : ℕ) → B.stands x s n → slice_get (moves (B.kind x) s) n ≡ Some (Taking port t) → B.stands y s (n + 1))) }
+    requires may { MayTakeAt B.BlockStep blocks.old.items block port t }
+    ensures moved { IfOk result (λ _. TookAt B.BlockStep blocks.old.items block port t blocks.new.items) }
     ensures refused { IfErr result (λ _. blocks.new.items ≡ blocks.old.items) }
     ensures same_length { length blocks.new.items ≡ length blocks.old.items }
     ensures sure { (x : B) → slice_get blocks.old.items block ≡ Some x → B.may_refuse x ≡ false → IsOk result }
@@ -43,9 +44,9 @@ pub(crate) fn take_at<B: BlockStep>(
 #[inline]
 pub(crate) fn did_put_at<B: BlockStep>(blocks: &mut Vec<B>, block: usize)
     requires within { block < length blocks.old.items }
-    requires may { ∥ ((x : B) × (s : Streams) × (n : ℕ) × (port : ℕ) × (t : Token) × (slice_get blocks.old.items block ≡ Some x) × B.stands x s n × (slice_get (moves (B.kind x) s) n ≡ Some (Putting port t))) ∥₁ }
+    requires may { MayPutAt B.BlockStep blocks.old.items block }
     ensures same_length { length blocks.new.items ≡ length blocks.old.items }
-    ensures moved { (x : B) → slice_get blocks.old.items block ≡ Some x → (y : B) × (blocks.new.items ≡ set blocks.old.items block y) × (B.kind y ≡ B.kind x) × ((s : Streams) (n : ℕ) (port : ℕ) (t : Token) → B.stands x s n → slice_get (moves (B.kind x) s) n ≡ Some (Putting port t) → B.stands y s (n + 1)) }
+    ensures moved { PutAt B.BlockStep blocks.old.items block blocks.new.items }
 {
     blocks[block].did_put();
 }

@@ -1,6 +1,6 @@
 //! The ends of the channels at one block's ports.
 
-ghost use Rattle.std.specs.Prelude.{◌≡◌, ◌<◌, ◌+◌, ◌-◌, ◌^◌, ℕ, [], ◌∷◌, true, min, refl, length, drop, set, slice_get, Some, false, IfOk, IfErr};
+ghost use Rattle.std.specs.Prelude.{◌≡◌, ◌<◌, ◌+◌, ◌-◌, ◌^◌, [], ◌∷◌, true, min, refl, length, drop, Some, false, IfOk, IfErr};
 ghost use Rattle.std.proofs.Common.{◌∙◌};
 ghost use Rattle.stream_tokens.specs.declared.Token.{Token as Tok};
 ghost use Rattle.block_core.specs.Move.{Taking, Putting};

@@ -1,13 +1,9 @@
 //! The machine.
 
-ghost use Rattle.std.specs.Prelude.{◌≡◌, ◌<◌, ◌^◌, List, length, IfOk};
-ghost use Rattle.sam_model.specs.Children.{Ranked};
+ghost use Rattle.std.specs.Prelude.{◌≡◌, ◌<◌, ◌^◌, length, IfOk};
 ghost use Rattle.graph.specs.Wiring.{WellFormed};
-ghost use Rattle.graph.specs.WholeStreams.{Consistent};
-ghost use Rattle.graph.specs.Standing.{StandAt, start_position};
-ghost use Rattle.plays.specs.Net.{start};
 ghost use Rattle.stepper.specs.Capacity.{CapacitiesFor};
-ghost use Rattle.stepper.specs.AtState.{AtState, Somewhere};
+ghost use Rattle.stepper.specs.AtState.{OwnBlocks, StartsFrom, Somewhere};
 
 use crate::queue::{Queue, queues_for};
 use crate::routes::Plan;
@@ -75,8 +71,8 @@ impl<B: BlockStep + Drop> Machine<B> {
         requires few_blocks { length g.now.blocks < 2 ^ 32 }
         requires few_channels { length g.now.channels < 2 ^ 32 }
         requires capacities { CapacitiesFor (length g.now.channels) caps.now.each }
-        requires own { ∥ ((storages : List Ranked) × Consistent storages g.now × StandAt B.kind B.stands storages g.now start_position blocks.items) ∥₁ }
-        ensures starts { IfOk result (λ machine. (storages : List Ranked) → Consistent storages g.now → StandAt B.kind B.stands storages g.now start_position blocks.items → AtState B.BlockStep storages g.now caps.now.each start machine) }
+        requires own { OwnBlocks B.BlockStep g.now blocks.items }
+        ensures starts { IfOk result (λ machine. StartsFrom B.BlockStep g.now caps.now.each blocks.items machine) }
         ensures same_blocks { IfOk result (λ machine. machine.blocks ≡ blocks.items) }
         ensures queues { IfOk result (λ machine. length machine.queues ≡ length g.now.channels) }
         ensures no_event { IfOk result (λ machine. machine.moves ≡ 0) }

@@ -1,6 +1,6 @@
 //! What is told of each token that is put.
 
-ghost use Rattle.std.specs.Prelude.{◌≡◌, ◌<◌, ◌+◌, ℕ, Bool, true, false, List, [], ◌∷◌, ◌++◌, length, slice_get, Option, Some, None, IsOk, IfOk, IfErr, get_or};
+ghost use Rattle.std.specs.Prelude.{◌≡◌, ◌<◌, ◌+◌, ℕ, Bool, true, false, List, [], length, slice_get, Some, None, IsOk, IfOk, IfErr, get_or};
 ghost use Rattle.stream_tokens.specs.declared.Token.{Token};
 ghost use Rattle.plays.specs.Told.{Tapped, one_told, HasLists};
 

@@ -1,6 +1,6 @@
 //! Some events of one block in a row.
 
-ghost use Rattle.std.specs.Prelude.{◌≡◌, ◌<◌, length, false, IfOk, IfErr};
+ghost use Rattle.std.specs.Prelude.{◌<◌, length, false, IfOk, IfErr};
 ghost use Rattle.plays.specs.Told.{HasLists};
 ghost use Rattle.stepper.specs.Steps.{SameShape};
 ghost use Rattle.stepper.specs.Bursting.{OnwardsBy};

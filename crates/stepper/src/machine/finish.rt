@@ -1,17 +1,14 @@
 //! Events until no block has one.
 
-ghost use Rattle.std.specs.Prelude.{◌≡◌, ◌<◌, ◌≤◌, ◌^◌, ◌||◌, ℕ, Option, List, [], ◌++◌, false, length, slice_get, Some, option_to_list, IfOk, IfErr};
-ghost use Rattle.sam_model.specs.Children.{Ranked};
+ghost use Rattle.std.specs.Prelude.{◌≡◌, ◌<◌, ◌^◌, ◌||◌, Option, List, false, length, slice_get, Some, option_to_list, IfOk, IfErr};
 ghost use Rattle.sam_base.specs.declared.faults.Waiting.{Waiting as Waits};
-ghost use Rattle.graph.specs.declared.graphs.Graph.{Graph};
-ghost use Rattle.graph.specs.Standing.{StandAt, final_position};
-ghost use Rattle.plays.specs.Net.{State, Stuck, Finished, can};
-ghost use Rattle.stepper.specs.AtState.{AtState, Wherever};
+ghost use Rattle.plays.specs.Net.{Stuck, Finished};
+ghost use Rattle.stepper.specs.AtState.{Wherever};
 ghost use Rattle.plays.specs.Told.{HasLists};
-ghost use Rattle.stepper.specs.Steps.{Wishes, SameShape};
+ghost use Rattle.stepper.specs.Steps.{SameShape};
 ghost use Rattle.stepper.specs.Runs.{Onwards};
 ghost use Rattle.stepper.specs.Bursting.{OnwardsBy};
-ghost use Rattle.stepper.specs.Endings.{waiting_for, waiting_list};
+ghost use Rattle.stepper.specs.Endings.{waiting_for, waiting_list, StallsWith, BlocksAtEnd};
 
 use super::Machine;
 use crate::tap::Tap;
@@ -168,7 +165,7 @@ impl<B: BlockStep + Drop> Machine<B> {
     /// How the run ended, once no block can move.
     fn ending(&self) -> Result<Ending, AllocError>
         ensures finished { result ≡ Ok Ending.Finished → Wherever B.BlockStep self.now (λ net rooms s. Finished net s) }
-        ensures stalled { (list : List Waits) → result ≡ Ok (Ending.Stalled list) → Wherever B.BlockStep self.now (λ net rooms s. (list ≡ waiting_list net s) × (Finished net s → ⊥)) }
+        ensures stalled { (list : List Waits) → result ≡ Ok (Ending.Stalled list) → StallsWith B.BlockStep list self.now }
     {
         let list = self.waiting()?;
         if list.len() == 0 {
@@ -187,8 +184,8 @@ impl<B: BlockStep + Drop> Machine<B> {
         ensures onwards { Onwards B.BlockStep self.old (T.told tap.old) self.new (T.told tap.new) }
         ensures stuck { IfOk result (λ _. Wherever B.BlockStep self.new Stuck) }
         ensures finished { result ≡ Ok Ending.Finished → Wherever B.BlockStep self.new (λ net rooms s. Finished net s) }
-        ensures blocks_end { result ≡ Ok Ending.Finished → (storages : List Ranked) (g : Graph) (caps : List (Option ℕ)) (s : State) → AtState B.BlockStep storages g caps s self.new → StandAt B.kind B.stands storages g (final_position storages g) self.new.blocks }
-        ensures stalled { (list : List Waits) → result ≡ Ok (Ending.Stalled list) → Wherever B.BlockStep self.new (λ net rooms s. (list ≡ waiting_list net s) × (Finished net s → ⊥)) }
+        ensures blocks_end { result ≡ Ok Ending.Finished → BlocksAtEnd B.BlockStep self.new }
+        ensures stalled { (list : List Waits) → result ≡ Ok (Ending.Stalled list) → StallsWith B.BlockStep list self.new }
         ensures same_shape { SameShape self.old self.new }
         ensures lists_stay { HasLists (length self.old.queues) (T.told tap.new) }
     {

@@ -1,6 +1,6 @@
 //! A schedule of blocks.
 
-ghost use Rattle.std.specs.Prelude.{◌≡◌, ◌<◌, length, All, IfOk, IfErr};
+ghost use Rattle.std.specs.Prelude.{◌<◌, length, All, IfOk, IfErr};
 ghost use Rattle.plays.specs.Told.{HasLists};
 ghost use Rattle.stepper.specs.Steps.{SameShape};
 ghost use Rattle.stepper.specs.Runs.{Played, PartPlayed};

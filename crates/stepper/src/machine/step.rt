@@ -1,6 +1,6 @@
 //! One event of the machine.
 
-ghost use Rattle.std.specs.Prelude.{◌≡◌, ◌<◌, ◌+◌, ◌-◌, ◌^◌, min, ℕ, List, Bool, false, Option, Some, length, slice_get, IsOk, IsSome, IfOk, IfErr};
+ghost use Rattle.std.specs.Prelude.{◌≡◌, ◌<◌, ◌+◌, ◌-◌, ◌^◌, min, ℕ, Bool, false, Some, length, slice_get, IsOk, IsSome, IfOk, IfErr};
 ghost use Rattle.stream_tokens.specs.declared.Token.{Token};
 ghost use Rattle.block_core.specs.declared.Wish.TheVariants.{Take as WishTake, Put as WishPut};
 ghost use Rattle.plays.specs.Held.{at_port, Queued};
