@@ -23,6 +23,7 @@ use Rattle.plays.specs.Rest.{ends_at, RestAt, BurstAt, MayBurst}
 use Rattle.stepper.specs.NetOf.{net_of, rooms_of}
 use Rattle.stepper.specs.AtState.{AtState, Somewhere}
 use Rattle.stepper.specs.Bursting.{row_of, block_ends, OnwardsBy}
+use Rattle.plays.proofs.Sums.{sum_same}
 use Rattle.plays.proofs.Lists.{same_some, some_in, get_set_here, get_set_there}
 use Rattle.stepper.proofs.Wires.{wired, move_within, take_port, put_port}
 
@@ -41,17 +42,13 @@ sum_more zero b k s t l here there = absurd (omega (arith, l))
 sum_more (suc n) b k s t l here there = elim (cases_eq n b) [
   | inl same ↦
       let e : t n ≡ s n + k = subst (λ x. t x ≡ s x + k) (sym same) here in
-      let below = sums n (λ d ld. there d (λ z. omega (arith, z, same, ld))) in
+      let below = sum_same n s t (λ d ld. there d (λ z. omega (arith, z, same, ld))) in
       omega (arith, e, below)
   | inr other ↦
       let e : t n ≡ s n = there n other in
       let r = sum_more n b k s t (omega (arith, l, other)) here there in
       omega (arith, e, r)
 ]
-  where
-    sums : (n : ℕ) → ((d : ℕ) → d < n → t d ≡ s d) → sum_below n t ≡ sum_below n s
-    sums zero h = refl
-    sums (suc n) h = let a = sums n (λ d l. h d (omega (arith, l))) in let b = h n (omega arith) in omega (arith, a, b)
 
 module _ {B : Type 0} (step : Ghosts B) (storages : List Ranked) (g : Graph) (caps : List (Option ℕ)) where
   pub rest_of : (s : State) (m : Held B) (told : Tapped) (b : ℕ)
