@@ -1,5 +1,8 @@
 -- Tokens taken from one port, and another put for each.
 use Rattle.std.specs.Prelude.{◌≡◌, ◌<◌, ◌≤◌, ℕ, zero, suc, ◌+◌, ◌-◌, ◌^◌, min, false, not, List, [], ◌∷◌, ◌++◌, length}
+use Rattle.std.proofs.lemmas.List.{take-take}
+use Rattle.std.proofs.lemmas.Option.{slice_get-get_or}
+use Rattle.std.proofs.lemmas.Option.{get_or_from_slice_get}
 use Rattle.std.specs.Prelude.{take, drop, set, slice_get, get_or, Some, refl}
 use Rattle.std.proofs.Common.{arith, sym, ◌∙◌, ap, subst, append-nil, append_assoc}
 use Rattle.std.proofs.lemmas.List.{length-set}
@@ -17,7 +20,7 @@ use Rattle.plays.specs.Rest.{refilled, BlockEnds, no_queue, in_queue, first_at, 
 use Rattle.plays.specs.Rest.{MayRelayOne, RelayedTo}
 use Rattle.plays.proofs.Lists.{same_some, some_in, get_set_here, get_set_there}
 use Rattle.plays.proofs.Tellings.{lists_put, lists_fewer}
-use Rattle.plays.proofs.Rests.{made_none, made_then, fed_made, next_at, input_port, input_queue, some_read, read_some}
+use Rattle.plays.proofs.Rests.{made_none, made_then, fed_made, next_at, input_port, input_queue}
 use Rattle.plays.proofs.Rests.{popped, pushed, made_take, made_put, has_lists_prop}
 
 -- ---- a token taken and another put for it
@@ -72,7 +75,7 @@ set_apart (x ∷ xs) (suc i) (suc j) y z other = ap (λ (r : List _). x ∷ r) (
 pub still_there : (e : BlockEnds) (p q : ℕ) (q2 : Queued) (qs1 : List Queued) → (get_or e.ins p 0 ≡ get_or e.outs q 0 → ⊥) → get_or e.ins p 0 < length e.queues
     → qs1 ≡ set e.queues (get_or e.outs q 0) q2 → slice_get qs1 (get_or e.ins p 0) ≡ Some (in_queue e p)
 still_there e p q q2 qs1 other l eq =
-    ap (λ z. slice_get z (get_or e.ins p 0)) eq ∙ get_set_there e.queues (get_or e.outs q 0) (get_or e.ins p 0) q2 other ∙ some_read e.queues (get_or e.ins p 0) no_queue l
+    ap (λ z. slice_get z (get_or e.ins p 0)) eq ∙ get_set_there e.queues (get_or e.outs q 0) (get_or e.ins p 0) q2 other ∙ slice_get-get_or e.queues (get_or e.ins p 0) no_queue l
 
 pub made_relay : (e : BlockEnds) (p q : ℕ) (u t : Token) (qs1 qs2 : List Queued) (told : Tapped) (n1 n : ℕ) (q2 : Queued)
     → first_at e p ≡ Some u → (get_or e.ins p 0 ≡ get_or e.outs q 0 → ⊥) → get_or e.ins p 0 < length e.queues
@@ -95,7 +98,7 @@ pub relay_waits : (e : BlockEnds) (p : ℕ) (qs1 qs2 : List Queued) → get_or e
     → (get_or qs2 (get_or e.ins p 0) no_queue).tokens ≡ drop 1 (waits_at e p)
 relay_waits e p qs1 qs2 l eq =
     ap (λ (z : Queued). z.tokens)
-    (read_some qs2 (get_or e.ins p 0) no_queue (popped (in_queue e p)) (ap (λ z. slice_get z (get_or e.ins p 0)) eq ∙ get_set_here qs1 (get_or e.ins p 0) (popped (in_queue e p)) l))
+    (get_or_from_slice_get qs2 (get_or e.ins p 0) (popped (in_queue e p)) no_queue (ap (λ z. slice_get z (get_or e.ins p 0)) eq ∙ get_set_here qs1 (get_or e.ins p 0) (popped (in_queue e p)) l))
 
 -- ---- one after another
 
@@ -143,12 +146,6 @@ get_take [] (suc n) i l = refl
 get_take (x ∷ xs) (suc n) zero l = refl
 get_take (x ∷ xs) (suc n) (suc i) l = get_take xs n i (omega (arith, l))
 
-take_take : (xs : List Token) (n i : ℕ) → i ≤ n → take i (take n xs) ≡ take i xs
-take_take xs n zero l = refl
-take_take xs zero (suc i) l = absurd (omega (arith, l))
-take_take [] (suc n) (suc i) l = refl
-take_take (x ∷ xs) (suc n) (suc i) l = ap (λ (z : List Token). x ∷ z) (take_take xs n i (omega (arith, l)))
-
 pub relayed_start : (e : BlockEnds) (from to : ℕ) (us : List Token) → RelayedTo e from to us 0 e
 relayed_start e from to us = record { made = made_none e; left = refl }
 
@@ -166,7 +163,7 @@ relay_may e from to us i f u h at n may = ∥∥₁_map may (λ r.
     let ts : List Token = take (length us) (waits_at e from) in
     let t = relay_first e from to us i f h l n in
     let split = relayed_split from to ts us i t.0 u (get_take (waits_at e from) (length us) i l ∙ t.2) at in
-    let same : take i ts ≡ take i (waits_at e from) = take_take (waits_at e from) (length us) i (omega (arith, l)) in
+    let same : take i ts ≡ take i (waits_at e from) = take-take i (length us) (waits_at e from) (omega (arith, l)) in
     let later : List Move = relayed from to (drop (suc i) ts) (drop (suc i) us) ++ r.0 in
     let all : relayed from to ts us ++ r.0 ≡ relayed from to (take i (waits_at e from)) (take i us) ++ (Taking from t.0 ∷ Putting to u ∷ later) =
     ap (λ (z : List Move). z ++ r.0) split

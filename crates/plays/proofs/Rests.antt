@@ -1,5 +1,6 @@
 -- Moves of one block, as all but the blocks sees them.
-use Rattle.std.specs.Prelude.{◌≡◌, ◌<◌, ℕ, zero, suc, ◌+◌, ◌-◌, ◌^◌, min, Bool, true, false, not, List, [], ◌∷◌, ◌++◌}
+use Rattle.std.specs.Prelude.{◌≡◌, ◌<◌, ℕ, suc, ◌+◌, ◌-◌, ◌^◌, min, Bool, true, false, not, List, [], ◌∷◌, ◌++◌}
+use Rattle.std.proofs.lemmas.Option.{slice_get-get_or}
 use Rattle.std.specs.Prelude.{length, drop, set, slice_get, get_or, Some, None, refl}
 use Rattle.std.proofs.Common.{arith, sym, ◌∙◌, ap, subst, append_assoc, length-append, inl, inr}
 use Rattle.std.proofs.lemmas.Bool.{cases_eq}
@@ -100,16 +101,6 @@ fed_made e f xs rest a h =
 
 -- ---- the queue at an input
 
-pub read_some : {A : Type 0} (xs : List A) (i : ℕ) (d x : A) → slice_get xs i ≡ Some x → get_or xs i d ≡ x
-read_some [] i d x e = absurd (cc)
-read_some (y ∷ xs) zero d x e = same_some y x e
-read_some (y ∷ xs) (suc i) d x e = read_some xs i d x e
-
-pub some_read : {A : Type 0} (xs : List A) (i : ℕ) (d : A) → i < length xs → slice_get xs i ≡ Some (get_or xs i d)
-some_read [] i d l = absurd (omega (arith, l))
-some_read (y ∷ xs) zero d l = refl
-some_read (y ∷ xs) (suc i) d l = some_read xs i d (omega (arith, l))
-
 pub next_at : (e : BlockEnds) (net : Net) (s : State) (m : Move) (rest : List Move) → drop (s e.block) (net.moves e.block) ≡ m ∷ rest → slice_get (net.moves e.block) (s e.block) ≡ Some m
 next_at e net s m rest left = at-place (net.moves e.block) (s e.block) m rest left
 
@@ -201,7 +192,7 @@ comes e p u rest f =
     let named : (net.receiver c ≡ e.block) × (net.received_at c ≡ p) × (c < net.channels) = h.wired.taken e.block (s e.block) p u at in
     let lc : get_or e.ins p 0 < length e.queues = let l = named.2 in omega (arith, here, l, h.queues_number) in
     let w : Waits net s c (waits_at e p) =
-    subst (λ n. Waits net s n (waits_at e p)) here (h.queues (get_or e.ins p 0) (in_queue e p) (some_read e.queues (get_or e.ins p 0) no_queue lc)).1 in
+    subst (λ n. Waits net s n (waits_at e p)) here (h.queues (get_or e.ins p 0) (in_queue e p) (slice_get-get_or e.queues (get_or e.ins p 0) no_queue lc)).1 in
     let later : List Token = puts (net.sent_at c) (drop (s (net.sender c)) (net.moves (net.sender c))) in
     let to_come : takes (net.received_at c) (drop (s (net.receiver c)) (net.moves (net.receiver c))) ≡ takes p (Taking p u ∷ rest) =
     ap (λ q. takes q (drop (s (net.receiver c)) (net.moves (net.receiver c)))) named.1
@@ -221,7 +212,7 @@ pub made_take : (e : BlockEnds) (p : ℕ) (t : Token) (qs : List Queued) (n : �
 made_take e p t qs n first lc eq en =
     let q = in_queue e p in
     let c = get_or e.ins p 0 in
-    let at : slice_get e.queues c ≡ Some q = some_read e.queues c no_queue lc in
+    let at : slice_get e.queues c ≡ Some q = slice_get-get_or e.queues c no_queue lc in
     let number : length qs ≡ length e.queues = ap length eq ∙ length-set e.queues c (popped q) in
     record {
       block = refl;

@@ -1,9 +1,9 @@
 -- From a machine to one block's ends, and back.
-use Rattle.std.specs.Prelude.{◌≡◌, ◌<◌, ◌≤◌, ℕ, zero, suc, ◌+◌, Bool, true, List, [], ◌∷◌, length, take, drop, set}
-use Rattle.std.specs.Prelude.{slice_get, get_or, Option, Some, Result, Ok, Err, IfOk, IfErr, false, refl}
+use Rattle.std.specs.Prelude.{◌≡◌, ◌<◌, ◌≤◌, ℕ, zero, suc, ◌+◌, Bool, true, List, length, take, drop, set}
+use Rattle.std.specs.Prelude.{slice_get, get_or, Option, Some, Result, Ok, Err, IfOk, IfErr, false}
 use Rattle.std.proofs.Common.{arith, sym, ◌∙◌, ap, subst, length-drop, inl, inr}
 use Rattle.std.proofs.lemmas.Bool.{cases_eq}
-use Rattle.std.proofs.lemmas.List.{length-set, length-take, take-append-drop}
+use Rattle.std.proofs.lemmas.List.{get_or-drop, length-set, length-take, take-append-drop}
 use Rattle.std.specs.Coded.{le_prop}
 use Rattle.std.proofs.Math.Logic.{∥∥₁_elim, ∥∥₁_map}
 use Rattle.sam_model.specs.Children.{Ranked}
@@ -26,15 +26,6 @@ use Rattle.stepper.specs.Bursting.{row_of, block_ends, OnwardsBy}
 use Rattle.plays.proofs.Sums.{sum_same}
 use Rattle.plays.proofs.Lists.{same_some, some_in, get_set_here, get_set_there}
 use Rattle.stepper.proofs.Wires.{wired, move_within, take_port, put_port}
-
-get_drop : (xs : List ℕ) (a p : ℕ) → get_or (drop a xs) p 0 ≡ get_or xs (a + p) 0
-get_drop xs zero p = let e : p ≡ 0 + p = omega arith in ap (λ i. get_or xs i 0) e
-get_drop [] (suc a) p = nothing (drop (suc a) []) refl p ∙ sym (nothing [] refl (suc a + p))
-  where
-    nothing : (ys : List ℕ) → ys ≡ [] → (i : ℕ) → get_or ys i 0 ≡ 0
-    nothing [] e i = refl
-    nothing (y ∷ ys) e i = absurd (cc)
-get_drop (x ∷ xs) (suc a) p = let e : suc a + p ≡ suc (a + p) = omega arith in get_drop xs a p ∙ sym (ap (λ i. get_or (x ∷ xs) i 0) e)
 
 -- so many moves more of one block are so many more of all
 sum_more : (n b k : ℕ) (s t : State) → b < n → t b ≡ s b + k → ((d : ℕ) → (d ≡ b → ⊥) → t d ≡ s d) → sum_below n t ≡ sum_below n s + k
@@ -65,13 +56,13 @@ module _ {B : Type 0} (step : Ghosts B) (storages : List Ranked) (g : Graph) (ca
         let lp : p < length (block g b).ins = take_port storages g b n p t h.well_formed h.consistent e in
         let i = h.routed.ins.within b p l lp in
         let d = length-drop (get_or m.routes.ins.first b 0) m.routes.ins.channels in
-        (omega (arith, i, d), get_drop m.routes.ins.channels (get_or m.routes.ins.first b 0) p ∙ h.routed.ins.same b p l lp);
+        (omega (arith, i, d), get_or-drop (get_or m.routes.ins.first b 0) m.routes.ins.channels p 0 ∙ h.routed.ins.same b p l lp);
     outs = λ n p t e.
         let l : b < length g.blocks = move_within storages g b n (Putting p t) e in
         let lp : p < length (block g b).outs = put_port storages g b n p t h.well_formed h.consistent e in
         let i = h.routed.outs.within b p l lp in
         let d = length-drop (get_or m.routes.outs.first b 0) m.routes.outs.channels in
-        (omega (arith, i, d), get_drop m.routes.outs.channels (get_or m.routes.outs.first b 0) p ∙ h.routed.outs.same b p l lp);
+        (omega (arith, i, d), get_or-drop (get_or m.routes.outs.first b 0) m.routes.outs.channels p 0 ∙ h.routed.outs.same b p l lp);
     apart = λ n k p q t u e f same.
         let l : b < length g.blocks = move_within storages g b n (Taking p t) e in
         let in_named = h.well_formed.in_named b p l (take_port storages g b n p t h.well_formed h.consistent e) in

@@ -1,8 +1,9 @@
 use Rattle.std.proofs.Common.{◌∙◌, sym, ap, refl, slice_get, get_or, arith}
+use Rattle.std.proofs.lemmas.Option.{get_or_from_slice_get}
 use Rattle.std.proofs.lemmas.Option.{slice_get_read}
 use Rattle.plays.specs.Held.{Queued}
 use Rattle.plays.specs.Rest.{no_queue}
-use Rattle.plays.proofs.Rests.{input_port, input_queue, read_some}
+use Rattle.plays.proofs.Rests.{input_port, input_queue}
 use Rattle.stepper.proofs.ends.EndsPorts.front.Goals as goal
 
 pub bounds-self-port : goal.bounds-self-port
@@ -14,4 +15,4 @@ index-requires g c = let l = input_queue _ c.args.port c.requires in omega (arit
 pub returns : goal.returns
 returns g c =
     let q = slice_get_read c.args.self.now.queues.now.items _ (get_or c.args.self.now.ins.now c.args.port 0) c.index.result.now refl (input_queue _ c.args.port c.requires) c.index.ensures in
-    c.front.ensures ∙ ap (λ (z : Queued). slice_get z.tokens 0) (sym (read_some c.args.self.now.queues.now.items (get_or c.args.self.now.ins.now c.args.port 0) no_queue c.index.result.now q))
+    c.front.ensures ∙ ap (λ (z : Queued). slice_get z.tokens 0) (sym (get_or_from_slice_get c.args.self.now.queues.now.items (get_or c.args.self.now.ins.now c.args.port 0) c.index.result.now no_queue q))

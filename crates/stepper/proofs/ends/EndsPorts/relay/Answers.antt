@@ -1,9 +1,10 @@
 use Rattle.std.proofs.Common.{ℕ, ◌≡◌, ◌≤◌, ◌∙◌, ap, refl, length, take, arith, false, true, Ok}
+use Rattle.std.proofs.lemmas.Option.{slice_get-get_or}
 use Rattle.stream_tokens.specs.declared.Token.TheVariants.{Item}
 use Rattle.block_core.specs.Bursts.{relayed}
 use Rattle.block_core.proofs.Pouring.{always-err}
 use Rattle.plays.specs.Rest.{MadeAt, waits_at}
-use Rattle.plays.proofs.Rests.{same_none, same_then, some_read}
+use Rattle.plays.proofs.Rests.{same_none, same_then}
 use Rattle.plays.proofs.Relays.{relayed_start, relay_may, relayed_next, relayed_still}
 use Rattle.stepper.specs.EndsView.{seen}
 use Rattle.stepper.proofs.ends.EndsPorts.relay.Goals as goal
@@ -13,12 +14,12 @@ loop-i-init g c = record { same_queues = refl; same_tap = refl; same_ends = same
 
 pub relay_one-requires : goal.relay_one-requires
 relay_one-requires g c =
-    let at = some_read c.args.out.now c.loop-i.i (Item 0) c.loop-i-test.true in
+    let at = slice_get-get_or c.args.out.now c.loop-i.i (Item 0) c.loop-i-test.true in
     record { may = relay_may (seen g.T.Tap c.args.self.now) c.args.from c.args.to c.args.out.now c.loop-i.i (seen g.T.Tap c.loop-i.self) _ c.loop-i.invariant.relayed at c.requires.enough c.requires.may }
 
 pub loop-i-preserved : goal.loop-i-preserved
 loop-i-preserved g c =
-    let at = some_read c.args.out.now c.loop-i.i (Item 0) c.loop-i-test.true in
+    let at = slice_get-get_or c.args.out.now c.loop-i.i (Item 0) c.loop-i-test.true in
     let e : c.in_ok-relay_one.field-0 ≡ true = c.if-not-branch.false in
     let done = ap (λ z. Ok z) e in
     record {
