@@ -1,10 +1,8 @@
 //! The block that reads values by their references.
 
-ghost use Rattle.std.specs.Prelude.{◌≡◌, ℕ, ◌+◌, List, [], ◌∷◌, length, false, slice_get, Some, IsOk, IfOk, IfErr};
+ghost use Rattle.std.specs.Prelude.{◌≡◌, [], ◌∷◌, length, false};
 ghost use Rattle.block_core.specs.Change.{on_item, referenced_value, ItemsBelow};
-ghost use Rattle.block_core.specs.Move.{Taking, Putting};
-ghost use Rattle.block_core.specs.Ports.{Streams};
-ghost use Rattle.block_core.specs.Kind.{ArrayKind, Fits, moves};
+ghost use Rattle.block_core.specs.Kind.{ArrayKind, moves};
 ghost use Rattle.block_core.specs.Stands.{Stands, StandsAtStart};
 ghost use Rattle.block_core.specs.Runs.{Runs};
 ghost use Rattle.block_core.proofs.Unique.{same-wish};

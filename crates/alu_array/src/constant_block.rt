@@ -1,10 +1,8 @@
 //! The block that puts one value in place of each reference.
 
-ghost use Rattle.std.specs.Prelude.{◌≡◌, ℕ, ◌+◌, List, false, slice_get, Some, IsOk, IfOk, IfErr};
+ghost use Rattle.std.specs.Prelude.{◌≡◌, false};
 ghost use Rattle.block_core.specs.Change.{on_item};
-ghost use Rattle.block_core.specs.Move.{Taking, Putting};
-ghost use Rattle.block_core.specs.Ports.{Streams};
-ghost use Rattle.block_core.specs.Kind.{ConstKind, Fits, moves};
+ghost use Rattle.block_core.specs.Kind.{ConstKind, moves};
 ghost use Rattle.block_core.specs.Stands.{Stands, StandsAtStart};
 ghost use Rattle.block_core.specs.Runs.{Runs};
 ghost use Rattle.block_core.proofs.Unique.{same-wish};

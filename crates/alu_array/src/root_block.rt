@@ -1,9 +1,7 @@
 //! The block that every graph begins with.
 
-ghost use Rattle.std.specs.Prelude.{◌≡◌, ℕ, ◌+◌, List, false, slice_get, Some, IsOk, IfOk, IfErr};
-ghost use Rattle.block_core.specs.Move.{Taking, Putting};
-ghost use Rattle.block_core.specs.Ports.{Streams};
-ghost use Rattle.block_core.specs.Kind.{RootKind, Fits, moves};
+ghost use Rattle.std.specs.Prelude.{◌≡◌, false, IsOk, IfOk, IfErr};
+ghost use Rattle.block_core.specs.Kind.{RootKind, moves};
 ghost use Rattle.block_core.specs.Steps.{StandsAfterTake};
 ghost use Rattle.block_core.specs.Stands.{Stands, StandsAtStart};
 ghost use Rattle.block_core.specs.Runs.{Runs};

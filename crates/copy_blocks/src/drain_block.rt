@@ -1,9 +1,7 @@
 //! The block that takes a stream which nobody reads.
 
-ghost use Rattle.std.specs.Prelude.{◌≡◌, ℕ, ◌+◌, List, false, slice_get, Some, IsOk, IfOk, IfErr};
-ghost use Rattle.block_core.specs.Move.{Taking, Putting};
-ghost use Rattle.block_core.specs.Ports.{Streams};
-ghost use Rattle.block_core.specs.Kind.{DrainKind, Fits, moves};
+ghost use Rattle.std.specs.Prelude.{◌≡◌, false};
+ghost use Rattle.block_core.specs.Kind.{DrainKind, moves};
 ghost use Rattle.block_core.specs.Steps.{StandsAfterPut};
 ghost use Rattle.block_core.specs.Stands.{Stands, StandsAtStart};
 ghost use Rattle.block_core.specs.Runs.{Runs};

@@ -1,9 +1,7 @@
 //! The block that repeats each token of an outer stream along the fiber that lies beneath it.
 
-ghost use Rattle.std.specs.Prelude.{◌≡◌, ℕ, ◌+◌, List, false, slice_get, Some, IsOk, IfOk, IfErr};
-ghost use Rattle.block_core.specs.Move.{Taking, Putting};
-ghost use Rattle.block_core.specs.Ports.{Streams};
-ghost use Rattle.block_core.specs.Kind.{RepeatKind, Fits, moves};
+ghost use Rattle.std.specs.Prelude.{◌≡◌, false};
+ghost use Rattle.block_core.specs.Kind.{RepeatKind, moves};
 ghost use Rattle.block_core.specs.Stands.{Stands, StandsAtStart};
 ghost use Rattle.block_core.specs.Runs.{Runs};
 ghost use Rattle.block_core.proofs.Unique.{same-wish};

@@ -1,11 +1,10 @@
 //! The block that keeps one level of a result.
 
-ghost use Rattle.std.specs.Prelude.{◌≡◌, ◌++◌, [], ◌∷◌, ℕ, ◌+◌, eqb, length, Some, slice_get, true, false, IsOk, IfOk, IfErr, OnOk, OnErr};
+ghost use Rattle.std.specs.Prelude.{◌≡◌, ◌++◌, [], ◌∷◌, ℕ, ◌+◌, eqb, length, true, false, IfOk, OnOk, OnErr};
 ghost use Rattle.stream_tokens.specs.declared.Token.{Token};
 ghost use Rattle.stream_tokens.specs.declared.Token.TheVariants.{Stop};
-ghost use Rattle.block_core.specs.Move.{Taking, Putting};
 ghost use Rattle.block_core.specs.Ports.{Streams, port};
-ghost use Rattle.block_core.specs.Kind.{Fits, WriteLevelKind, moves};
+ghost use Rattle.block_core.specs.Kind.{WriteLevelKind, moves};
 ghost use Rattle.block_core.specs.Written.{items_in, segs_of, crds_of};
 ghost use Rattle.block_core.specs.Steps.{StandsAfterPut};
 ghost use Rattle.block_core.specs.Stands.{Stands, StandsAtStart};

@@ -1,9 +1,8 @@
 //! The block that keeps the values of a result.
 
-ghost use Rattle.std.specs.Prelude.{◌≡◌, ◌++◌, [], ◌∷◌, ℕ, ◌+◌, length, Some, slice_get, true, false, IsOk, IfOk, IfErr, OnOk, OnErr};
-ghost use Rattle.block_core.specs.Move.{Taking, Putting};
+ghost use Rattle.std.specs.Prelude.{◌≡◌, ◌++◌, [], ◌∷◌, ◌+◌, length, true, false, OnOk, OnErr};
 ghost use Rattle.block_core.specs.Ports.{Streams, port};
-ghost use Rattle.block_core.specs.Kind.{Fits, WriteValueKind, moves};
+ghost use Rattle.block_core.specs.Kind.{WriteValueKind, moves};
 ghost use Rattle.block_core.specs.Written.{items_in, vals_of};
 ghost use Rattle.block_core.specs.Steps.{StandsAfterPut};
 ghost use Rattle.block_core.specs.Stands.{Stands, StandsAtStart};

@@ -1,7 +1,7 @@
 //! The machine of both blocks: it holds the head of each side, and puts rows made of them.
 
 ghost use Rattle.std.specs.Prelude.{◌≡◌, ◌+◌, ◌≤◌};
-ghost use Rattle.merge_blocks.specs.MergeSteps.{IsMergerState, first_port, end_port, row_token, sooner, chosen, after_row, merge_next_take, merge_next_put, new_merger, merge_steps};
+ghost use Rattle.merge_blocks.specs.MergeSteps.{IsMergerState, first_port, end_port, row_token, sooner, chosen, after_row, new_merger, merge_steps};
 
 use block_core::Wish;
 use stream_tokens::Token;

@@ -1,8 +1,7 @@
 //! The block that joins the coordinates of both sides.
 
-ghost use Rattle.std.specs.Prelude.{◌≡◌, ℕ, ◌+◌, ◌≤◌, false};
-ghost use Rattle.block_core.specs.Ports.{Streams};
-ghost use Rattle.block_core.specs.Kind.{UnionKind, Fits, moves};
+ghost use Rattle.std.specs.Prelude.{◌≡◌, ◌+◌, ◌≤◌, false};
+ghost use Rattle.block_core.specs.Kind.{UnionKind, moves};
 ghost use Rattle.block_core.specs.Stands.{Stands, StandsAtStart};
 ghost use Rattle.block_core.specs.Runs.{Runs};
 ghost use Rattle.block_core.proofs.Unique.{same-wish};

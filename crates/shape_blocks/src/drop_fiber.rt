@@ -1,9 +1,7 @@
 //! The block that drops coordinates whose fiber is empty.
 
-ghost use Rattle.std.specs.Prelude.{◌≡◌, ℕ, ◌+◌, Some, slice_get, false, IsOk, IfOk, IfErr};
-ghost use Rattle.block_core.specs.Move.{Taking, Putting};
-ghost use Rattle.block_core.specs.Ports.{Streams};
-ghost use Rattle.block_core.specs.Kind.{DropFiberKind, Fits, moves};
+ghost use Rattle.std.specs.Prelude.{◌≡◌, false};
+ghost use Rattle.block_core.specs.Kind.{DropFiberKind, moves};
 ghost use Rattle.block_core.specs.Stands.{Stands, StandsAtStart};
 ghost use Rattle.block_core.specs.Runs.{Runs};
 ghost use Rattle.block_core.proofs.Unique.{same-wish};

@@ -1,8 +1,7 @@
 //! The matrix reducer and its states.
 
-ghost use Rattle.std.specs.Prelude.{◌≡◌, ℕ, true, OnOk, OnErr};
-ghost use Rattle.block_core.specs.Ports.{Streams};
-ghost use Rattle.block_core.specs.Kind.{SumMatrixKind, Fits, moves};
+ghost use Rattle.std.specs.Prelude.{◌≡◌, true, OnOk, OnErr};
+ghost use Rattle.block_core.specs.Kind.{SumMatrixKind, moves};
 ghost use Rattle.block_core.specs.Stands.{Stands, StandsAtStart};
 ghost use Rattle.block_core.specs.Runs.{Runs};
 ghost use Rattle.block_core.proofs.Unique.{same-wish};

@@ -1,9 +1,7 @@
 //! The vector reducer and its states.
 
-ghost use Rattle.std.specs.Prelude.{◌≡◌, ℕ, true, OnOk, OnErr};
-ghost use Rattle.stream_tokens.specs.Nest.{leaf};
-ghost use Rattle.block_core.specs.Ports.{Streams};
-ghost use Rattle.block_core.specs.Kind.{SumVectorKind, Fits, moves};
+ghost use Rattle.std.specs.Prelude.{◌≡◌, true, OnOk, OnErr};
+ghost use Rattle.block_core.specs.Kind.{SumVectorKind, moves};
 ghost use Rattle.block_core.specs.Stands.{Stands, StandsAtStart};
 ghost use Rattle.block_core.specs.Runs.{Runs};
 ghost use Rattle.block_core.proofs.Unique.{same-wish};
