@@ -1,117 +1,87 @@
 //! Statements and refusals, by hand.
 
-use crate::{FactorText, NoteFault, read_statement};
+use crate::tables::{case_at, unfolded};
+use notation::{NoteFault, read_statement};
 use sam_base::NoteKind;
 use std::alloc::Global;
 use std::test::Fail;
 
-/// The kind and the place of a refusal.
-fn refusal(alloc: Global, text: &[u8]) -> Option<(NoteKind, u32)> {
+/// Texts that are refused, with the kind and the place that are told, and one that is read.
+const STATEMENTS: &[u8] = b">ExpectedName 0
+ \t>ExpectedName 2
+2 = b>ExpectedName 0
+18446744073709551616>ExpectedName 0
+sum = b>ExpectedName 0
+% = b>BadChar 0
+x>ExpectedEquals 1
+x y>ExpectedEquals 2
+x(i) >ExpectedEquals 5
+x(i) b>ExpectedEquals 5
+x(i) (j)>ExpectedEquals 5
+x(>ExpectedName 2
+x()>ExpectedName 2
+x(i,)>ExpectedName 4
+x(sum)>ExpectedName 2
+x(i>ExpectedComma 3
+x(i j)>ExpectedComma 4
+x(i;j)>BadChar 3
+x = b(i j;>ExpectedComma 8
+x = b(2)>ExpectedName 6
+x=>ExpectedFactor 2
+x=*b>ExpectedFactor 2
+x=--b>ExpectedFactor 3
+x=+b>ExpectedFactor 2
+x=b+ >ExpectedFactor 5
+x=b*-c>ExpectedFactor 4
+x=b+-c>ExpectedFactor 4
+x==%>ExpectedFactor 2
+x=(b)>Parenthesis 2
+x=-(b)>Parenthesis 3
+x=b*sum(i,c)>SumForm 4
+x=18446744073709551616%>NumberTooLarge 2
+x=2b(i)>ExpectedOperator 3
+x=b c>ExpectedOperator 4
+x=b)>ExpectedOperator 3
+x=b(i)(j)>ExpectedOperator 6
+x=b 18446744073709551616>ExpectedOperator 4
+x=b = c>ExpectedOperator 4
+x=b|>BadChar 3
+x=\xc3\xa9>BadChar 2
+x=b.>BadChar 3
+x=b+b+b+b+b+b+b+b+b+b+b+b+b+b+b+b+%>TooManyTerms 33
+x=b+b+b+b+b+b+b+b+b+b+b+b+b+b+b+b-b>TooManyTerms 33
+x=1*1*1*1*1*1*1*1*1+>TooManyFactors 17
+X(i, j) = - B(i,k)*007*c\t+\rd>read
+";
+
+/// The kind and the place of a refusal, if the text is refused.
+fn refusal(alloc: Global, text: &[u8]) -> Result<Option<(NoteKind, u32)>, Fail> {
     if text.len() > 100 {
-        return None;
+        return Err(Fail::from("long"));
     }
     match read_statement(alloc, text) {
-        Err(NoteFault::Refused { kind, place }) => Some((kind, place)),
-        _ => None,
+        Ok(_) => Ok(None),
+        Err(NoteFault::Refused { kind, place }) => Ok(Some((kind, place))),
+        Err(NoteFault::OutOfMemory) => Err(Fail::from("memory")),
+    }
+}
+
+/// Whether a case is as the table says.
+fn is_right(alloc: Global, number: usize) -> Result<bool, Fail> {
+    let Some((text, told)) = case_at(STATEMENTS, number) else {
+        return Ok(false);
+    };
+    let text = unfolded(alloc, text)?;
+    match refusal(alloc, text.as_bytes())? {
+        Some((kind, place)) => Ok(format!(in alloc; "{kind:?} {place}")?.as_bytes() == told),
+        None => Ok(told == b"read".as_slice()),
     }
 }
 
 #[test]
-fn refusals(rt: HostRuntime) -> Result<(), Fail> {
-    let cases: [(&[u8], NoteKind, u32); 44] = [
-        (b"", NoteKind::ExpectedName, 0),
-        (b" \t", NoteKind::ExpectedName, 2),
-        (b"2 = b", NoteKind::ExpectedName, 0),
-        (b"18446744073709551616", NoteKind::ExpectedName, 0),
-        (b"sum = b", NoteKind::ExpectedName, 0),
-        (b"% = b", NoteKind::BadChar, 0),
-        (b"x", NoteKind::ExpectedEquals, 1),
-        (b"x y", NoteKind::ExpectedEquals, 2),
-        (b"x(i) ", NoteKind::ExpectedEquals, 5),
-        (b"x(i) b", NoteKind::ExpectedEquals, 5),
-        (b"x(i) (j)", NoteKind::ExpectedEquals, 5),
-        (b"x(", NoteKind::ExpectedName, 2),
-        (b"x()", NoteKind::ExpectedName, 2),
-        (b"x(i,)", NoteKind::ExpectedName, 4),
-        (b"x(sum)", NoteKind::ExpectedName, 2),
-        (b"x(i", NoteKind::ExpectedComma, 3),
-        (b"x(i j)", NoteKind::ExpectedComma, 4),
-        (b"x(i;j)", NoteKind::BadChar, 3),
-        (b"x = b(i j;", NoteKind::ExpectedComma, 8),
-        (b"x = b(2)", NoteKind::ExpectedName, 6),
-        (b"x=", NoteKind::ExpectedFactor, 2),
-        (b"x=*b", NoteKind::ExpectedFactor, 2),
-        (b"x=--b", NoteKind::ExpectedFactor, 3),
-        (b"x=+b", NoteKind::ExpectedFactor, 2),
-        (b"x=b+ ", NoteKind::ExpectedFactor, 5),
-        (b"x=b*-c", NoteKind::ExpectedFactor, 4),
-        (b"x=b+-c", NoteKind::ExpectedFactor, 4),
-        (b"x==%", NoteKind::ExpectedFactor, 2),
-        (b"x=(b)", NoteKind::Parenthesis, 2),
-        (b"x=-(b)", NoteKind::Parenthesis, 3),
-        (b"x=b*sum(i,c)", NoteKind::SumForm, 4),
-        (b"x=18446744073709551616%", NoteKind::NumberTooLarge, 2),
-        (b"x=2b(i)", NoteKind::ExpectedOperator, 3),
-        (b"x=b c", NoteKind::ExpectedOperator, 4),
-        (b"x=b)", NoteKind::ExpectedOperator, 3),
-        (b"x=b(i)(j)", NoteKind::ExpectedOperator, 6),
-        (b"x=b 18446744073709551616", NoteKind::ExpectedOperator, 4),
-        (b"x=b = c", NoteKind::ExpectedOperator, 4),
-        (b"x=b\n", NoteKind::BadChar, 3),
-        (b"x=\xc3\xa9", NoteKind::BadChar, 2),
-        (b"x=b.", NoteKind::BadChar, 3),
-        (
-            b"x=b+b+b+b+b+b+b+b+b+b+b+b+b+b+b+b+%",
-            NoteKind::TooManyTerms,
-            33,
-        ),
-        (
-            b"x=b+b+b+b+b+b+b+b+b+b+b+b+b+b+b+b-b",
-            NoteKind::TooManyTerms,
-            33,
-        ),
-        (b"x=1*1*1*1*1*1*1*1*1+", NoteKind::TooManyFactors, 17),
-    ];
-    for (text, kind, place) in cases {
-        assert_eq!(rt; refusal(rt.alloc(), text), Some((kind, place)));
-    }
-    Ok(())
-}
-
-#[test]
-fn a_statement(rt: HostRuntime) -> Result<(), Fail> {
-    let text = b"X(i, j) = - B(i,k)*007*c\t+\rd".as_slice();
-    let statement = read_statement(rt.alloc(), text)?;
-    assert_eq!(rt; statement.left.name.as_bytes(), b"X".as_slice());
-    assert_eq!(rt; statement.left.place, 0);
-    assert_eq!(rt; statement.left.vars.len(), 2);
-    assert_eq!(rt; statement.left.vars.get(1).as_bytes(), b"j".as_slice());
-    assert_eq!(rt; statement.terms.len(), 2);
-    let term = statement.terms.get(0);
-    assert!(rt; term.minus);
-    assert_eq!(rt; term.factors.len(), 3);
-    match term.factors.get(0) {
-        FactorText::Access(access) => {
-            assert_eq!(rt; access.name.as_bytes(), b"B".as_slice());
-            assert_eq!(rt; access.place, 12);
-            assert_eq!(rt; access.vars.len(), 2);
-        }
-        FactorText::Literal(_) => assert!(rt; false),
-    }
-    match term.factors.get(1) {
-        FactorText::Access(_) => assert!(rt; false),
-        FactorText::Literal(number) => assert_eq!(rt; *number, 7),
-    }
-    let last = statement.terms.get(1);
-    assert!(rt; !last.minus);
-    assert_eq!(rt; last.factors.len(), 1);
-    match last.factors.get(0) {
-        FactorText::Access(access) => {
-            assert_eq!(rt; access.name.as_bytes(), b"d".as_slice());
-            assert_eq!(rt; access.place, 27);
-            assert_eq!(rt; access.vars.len(), 0);
-        }
-        FactorText::Literal(_) => assert!(rt; false),
+fn statements_are_read(rt: HostRuntime) -> Result<(), Fail> {
+    for number in 0..45 {
+        assert!(rt; is_right(rt.alloc(), number)?, "statement {number}");
     }
     Ok(())
 }

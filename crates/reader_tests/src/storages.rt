@@ -7,7 +7,7 @@ ghost use Rattle.sam_model.specs.Lists.{within};
 ghost use Rattle.sam_model.specs.Tensors.{entry_list};
 ghost use Rattle.levels.specs.Reads.{children_at};
 
-use crate::{BuildFault, Storage};
+use levels::{BuildFault, Storage};
 use sam_base::{Items, Name, Nums};
 use sam_model::Format::{Compressed, Dense};
 use sam_model::{Entries, Format, Tensor};
@@ -91,103 +91,98 @@ fn stored(
     }
 }
 
-/// After a trailing dense level, parents without entries, entries that come unsorted, and an order of modes.
-#[test]
-fn tensors_are_stored_by_ranks(rt: HostRuntime) -> Result<(), Fail> {
-    let alloc = rt.alloc();
-    let matrix = [3, 3, 0, 1, 1, 2, 1, 0, 3, 1];
-    let trailing = stored(alloc, &[2, 2], &[Compressed, Dense], &[0, 1], &[1, 0], &[4])?;
-    assert_eq!(rt; trailing.as_str(), " 1@0 | 0@0 1@1 | 4 0");
-    let both = stored(
+fn trailing_dense(alloc: Global) -> Result<String, AllocError> {
+    stored(alloc, &[2, 2], &[Compressed, Dense], &[0, 1], &[1, 0], &[4])
+}
+
+fn both_compressed(alloc: Global) -> Result<String, AllocError> {
+    stored(
         alloc,
         &[4, 4],
         &[Compressed, Compressed],
         &[0, 1],
-        &matrix,
+        &[3, 3, 0, 1, 1, 2, 1, 0, 3, 1],
         &[5, 1, 3, 2, 4],
-    )?;
-    assert_eq!(rt;
-        both.as_str(),
-        " 0@0 1@1 3@2 | 1@0; 0@1 2@2; 1@3 3@4 | 1 2 3 4 5"
-    );
-    let rows = stored(
+    )
+}
+
+fn dense_rows(alloc: Global) -> Result<String, AllocError> {
+    stored(
         alloc,
         &[4, 4],
         &[Dense, Compressed],
         &[0, 1],
-        &matrix,
+        &[3, 3, 0, 1, 1, 2, 1, 0, 3, 1],
         &[5, 1, 3, 2, 4],
-    )?;
-    assert_eq!(rt;
-        rows.as_str(),
-        " 0@0 1@1 2@2 3@3 | 1@0; 0@1 2@2;; 1@3 3@4 | 1 2 3 4 5"
-    );
-    let columns = stored(
+    )
+}
+
+fn by_columns(alloc: Global) -> Result<String, AllocError> {
+    stored(
         alloc,
         &[2, 3],
         &[Compressed, Compressed],
         &[1, 0],
         &[0, 1, 1, 0, 1, 2],
         &[1, 2, 3],
-    )?;
-    assert_eq!(rt; columns.as_str(), " 0@0 1@1 2@2 | 1@0; 0@1; 1@2 | 2 1 3");
-    Ok(())
+    )
 }
 
 /// Values of repeated entries are summed modulo 2^64.
-#[test]
-fn repeated_entries_are_summed(rt: HostRuntime) -> Result<(), Fail> {
-    let alloc = rt.alloc();
+fn repeated(alloc: Global) -> Result<String, AllocError> {
     let half = 9_223_372_036_854_775_808;
-    let compressed = stored(
+    stored(
         alloc,
         &[4],
         &[Compressed],
         &[0],
         &[2, 2, 2],
         &[half, half, 7],
-    )?;
-    assert_eq!(rt; compressed.as_str(), " 2@0 | 7");
-    let dense = stored(
-        alloc,
-        &[2],
-        &[Dense],
-        &[0],
-        &[1, 0, 1],
-        &[18_446_744_073_709_551_615, 5, 3],
-    )?;
-    assert_eq!(rt; dense.as_str(), " 0@0 1@1 | 5 2");
-    Ok(())
+    )
 }
 
 /// Dense levels are stored without entries, as far as there is no compressed level.
+fn no_entry(alloc: Global, formats: [Format; 2]) -> Result<String, AllocError> {
+    stored(alloc, &[2, 2], &formats, &[0, 1], &[], &[])
+}
+
+fn too_many(alloc: Global) -> Result<String, AllocError> {
+    stored(alloc, &[4097, 4096], &[Dense, Dense], &[0, 1], &[], &[])
+}
+
+#[test]
+fn tensors_are_stored_by_ranks(rt: HostRuntime) -> Result<(), Fail> {
+    let alloc = rt.alloc();
+    assert_eq!(rt; trailing_dense(alloc)?.as_str(), " 1@0 | 0@0 1@1 | 4 0");
+    assert_eq!(rt;
+        both_compressed(alloc)?.as_str(),
+        " 0@0 1@1 3@2 | 1@0; 0@1 2@2; 1@3 3@4 | 1 2 3 4 5"
+    );
+    assert_eq!(rt;
+        dense_rows(alloc)?.as_str(),
+        " 0@0 1@1 2@2 3@3 | 1@0; 0@1 2@2;; 1@3 3@4 | 1 2 3 4 5"
+    );
+    assert_eq!(rt;
+        by_columns(alloc)?.as_str(),
+        " 0@0 1@1 2@2 | 1@0; 0@1; 1@2 | 2 1 3"
+    );
+    assert_eq!(rt; repeated(alloc)?.as_str(), " 2@0 | 7");
+    Ok(())
+}
+
 #[test]
 fn tensors_without_entries(rt: HostRuntime) -> Result<(), Fail> {
     let alloc = rt.alloc();
+    assert_eq!(rt; no_entry(alloc, [Compressed, Dense])?.as_str(), " | |");
     assert_eq!(rt;
-        stored(alloc, &[3], &[Compressed], &[0], &[], &[])?.as_str(),
-        " |"
-    );
-    assert_eq!(rt;
-        stored(alloc, &[2], &[Dense], &[0], &[], &[])?.as_str(),
-        " 0@0 1@1 | 0 0"
-    );
-    assert_eq!(rt;
-        stored(alloc, &[2, 2], &[Compressed, Dense], &[0, 1], &[], &[])?.as_str(),
-        " | |"
-    );
-    assert_eq!(rt;
-        stored(alloc, &[2, 2], &[Dense, Compressed], &[0, 1], &[], &[])?.as_str(),
+        no_entry(alloc, [Dense, Compressed])?.as_str(),
         " 0@0 1@1 |; |"
     );
     assert_eq!(rt;
-        stored(alloc, &[2, 2], &[Dense, Dense], &[0, 1], &[], &[])?.as_str(),
+        no_entry(alloc, [Dense, Dense])?.as_str(),
         " 0@0 1@1 | 0@0 1@1; 0@2 1@3 | 0 0 0 0"
     );
-    assert_eq!(rt;
-        stored(alloc, &[4097, 4096], &[Dense, Dense], &[0, 1], &[], &[])?.as_str(),
-        "too many"
-    );
+    assert_eq!(rt; too_many(alloc)?.as_str(), "too many");
     Ok(())
 }
 

@@ -2,11 +2,12 @@
 
 ghost use Rattle.std.specs.Prelude.{◌≡◌, [], ◌∷◌, IfOk};
 
-use crate::{TnsFault, read_tns, result_text};
-use sam_base::{Items, Name, Nums, TnsKind};
+use crate::tables::{case_at, unfolded};
+use sam_base::{Items, Name, Nums};
 use sam_model::{Entries, Format, Tensor, Written};
 use std::alloc::{AllocError, Global};
 use std::test::Fail;
+use tns_io::{TnsFault, read_tns, result_text};
 
 fn numbers(alloc: Global, numbers: &[u64]) -> Result<Nums, AllocError>
     ensures { IfOk result (λ list. list ≡ numbers.now) }
@@ -22,91 +23,123 @@ fn read(alloc: Global, text: &[u8], dims: &Nums) -> Option<Result<Entries, TnsFa
     }
 }
 
-fn refusal(alloc: Global, text: &[u8], dims: &Nums) -> Option<(TnsKind, u32)> {
-    match read(alloc, text, dims) {
-        Some(Err(TnsFault::Refused { kind, line })) => Some((kind, line)),
-        _ => None,
-    }
-}
+/// Vectors of 4 that are refused, with the line and the kind that are told.
+const VECTORS_REFUSED: &[u8] = b"# c||1 2|1 1.5>4: Fraction
+1 1.5>1: Fraction
+5 1>1: CoordinateRange
+0 1>1: CoordinateRange
+1>1: FieldCount
+1 2 3>1: FieldCount
+x 1>1: BadField
+1 x>1: BadField
+1 .5>1: BadField
+1 +>1: BadField
+1 --1>1: BadField
+1 1.0.0>1: BadField
+1 1e0>1: BadField
++1 1>1: BadField
+1 18446744073709551616>1: ValueRange
+1 -9223372036854775809>1: ValueRange
+1 18446744073709551616.5>1: Fraction
+18446744073709551617 x>1: CoordinateRange
+x>1: FieldCount
+1 1\r| \t\r| # 7|1 1.5|x|>4: Fraction
+1 1||9 1|1|>3: CoordinateRange
+1|9 1|>1: FieldCount
+";
 
-#[test]
-fn files_are_refused(rt: HostRuntime) -> Result<(), Fail> {
-    let vector: [(&[u8], TnsKind, u32); 22] = [
-        (b"# c\n\n1 2\n1 1.5", TnsKind::Fraction, 4),
-        (b"1 1.5", TnsKind::Fraction, 1),
-        (b"5 1", TnsKind::CoordinateRange, 1),
-        (b"0 1", TnsKind::CoordinateRange, 1),
-        (b"1", TnsKind::FieldCount, 1),
-        (b"1 2 3", TnsKind::FieldCount, 1),
-        (b"x 1", TnsKind::BadField, 1),
-        (b"1 x", TnsKind::BadField, 1),
-        (b"1 .5", TnsKind::BadField, 1),
-        (b"1 +", TnsKind::BadField, 1),
-        (b"1 --1", TnsKind::BadField, 1),
-        (b"1 1.0.0", TnsKind::BadField, 1),
-        (b"1 1e0", TnsKind::BadField, 1),
-        (b"+1 1", TnsKind::BadField, 1),
-        (b"1 18446744073709551616", TnsKind::ValueRange, 1),
-        (b"1 -9223372036854775809", TnsKind::ValueRange, 1),
-        (b"1 18446744073709551616.5", TnsKind::Fraction, 1),
-        (b"18446744073709551617 x", TnsKind::CoordinateRange, 1),
-        (b"x", TnsKind::FieldCount, 1),
-        (b"1 1\r\n \t\r\n # 7\n1 1.5\nx\n", TnsKind::Fraction, 4),
-        (b"1 1\n\n9 1\n1\n", TnsKind::CoordinateRange, 3),
-        (b"1\n9 1\n", TnsKind::FieldCount, 1),
-    ];
-    let dims = numbers(rt.alloc(), &[4])?;
-    for (text, kind, line) in vector {
-        assert_eq!(rt; refusal(rt.alloc(), text, &dims), Some((kind, line)));
-    }
-    let matrix: [(&[u8], TnsKind, u32); 5] = [
-        (b"1 1 1\n3 x 1", TnsKind::CoordinateRange, 2),
-        (b"1 1 1\n2 x 1.5", TnsKind::BadField, 2),
-        (b"2 4 1.5", TnsKind::CoordinateRange, 1),
-        (b"2 0 y", TnsKind::CoordinateRange, 1),
-        (b"2 3", TnsKind::FieldCount, 1),
-    ];
-    let dims = numbers(rt.alloc(), &[2, 3])?;
-    for (text, kind, line) in matrix {
-        assert_eq!(rt; refusal(rt.alloc(), text, &dims), Some((kind, line)));
+/// Matrices of 2 by 3 that are refused.
+const MATRICES_REFUSED: &[u8] = b"1 1 1|3 x 1>2: CoordinateRange
+1 1 1|2 x 1.5>2: BadField
+2 4 1.5>1: CoordinateRange
+2 0 y>1: CoordinateRange
+2 3>1: FieldCount
+";
+
+/// Vectors of 4 that are read, with their coordinates and values.
+const VECTORS: &[u8] = b"# c||1 2|1 3.0|>at 0 0 values 2 3
+# c||3 2|3 3.0>at 2 2 values 2 3
+4 1>at 3 values 1
+1 18446744073709551615>at 0 values 18446744073709551615
+1 -9223372036854775808.00>at 0 values 9223372036854775808
+1 -1|2 -0|003 +7.>at 0 1 2 values 18446744073709551615 0 7
+";
+
+/// Matrices of 2 by 3 that are read.
+const MATRICES: &[u8] = b" 2\t3 5 \r|1 1 6\r|>at 1 2 0 0 values 5 6
+>at values
+";
+
+fn append_numbers(alloc: Global, told: &mut Name, numbers: &[u64]) -> Result<(), AllocError> {
+    for number in numbers {
+        told.append(format!(in alloc; " {number}")?.as_bytes())?;
     }
     Ok(())
 }
 
+/// What is told of a file: its refusal, or its coordinates and values.
+fn told_of(alloc: Global, text: &[u8], dims: &Nums) -> Result<Name, Fail> {
+    let mut told = Name::new(alloc);
+    match read(alloc, text, dims) {
+        Some(Ok(entries)) => {
+            told.append(b"at")?;
+            append_numbers(alloc, &mut told, entries.coords.as_slice())?;
+            told.append(b" values")?;
+            append_numbers(alloc, &mut told, entries.values.as_slice())?;
+        }
+        Some(Err(TnsFault::Refused { kind, line })) => {
+            told.append(format!(in alloc; "{line}: {kind:?}")?.as_bytes())?;
+        }
+        _ => told.append(b"no answer")?,
+    }
+    Ok(told)
+}
+
+/// Whether a file is told of as its table says.
+fn is_right(alloc: Global, table: &[u8], dims: &Nums, number: usize) -> Result<bool, Fail> {
+    match case_at(table, number) {
+        Some((text, told)) => {
+            let text = unfolded(alloc, text)?;
+            Ok(told_of(alloc, text.as_bytes(), dims)?.as_bytes() == told)
+        }
+        None => Ok(false),
+    }
+}
+
 #[test]
-fn files_are_read(rt: HostRuntime) -> Result<(), Fail> {
-    let cases: [(&[u8], &[u64], &[u64], &[u64]); 9] = [
-        (b"# c\n\n1 2\n1 3.0\n", &[4], &[0, 0], &[2, 3]),
-        (b"# c\n\n3 2\n3 3.0", &[4], &[2, 2], &[2, 3]),
-        (b"4 1", &[4], &[3], &[1]),
-        (
-            b"1 18446744073709551615",
-            &[4],
-            &[0],
-            &[18_446_744_073_709_551_615],
-        ),
-        (
-            b"1 -9223372036854775808.00",
-            &[4],
-            &[0],
-            &[9_223_372_036_854_775_808],
-        ),
-        (
-            b"1 -1\n2 -0\n003 +7.",
-            &[4],
-            &[0, 1, 2],
-            &[18_446_744_073_709_551_615, 0, 7],
-        ),
-        (b"2147483647 0", &[2_147_483_647], &[2_147_483_646], &[0]),
-        (b" 2\t3 5 \r\n1 1 6\r\n", &[2, 3], &[1, 2, 0, 0], &[5, 6]),
-        (b"", &[2, 3], &[], &[]),
-    ];
-    for (text, dims, coords, values) in cases {
-        let sizes = numbers(rt.alloc(), dims)?;
-        let entries = read(rt.alloc(), text, &sizes).ok_or("long")??;
-        assert_eq!(rt; entries.arity as usize, dims.len());
-        assert!(rt; entries.coords.as_slice() == coords);
-        assert!(rt; entries.values.as_slice() == values);
+fn vectors(rt: HostRuntime) -> Result<(), Fail> {
+    let dims = numbers(rt.alloc(), &[4])?;
+    for number in 0..22 {
+        assert!(rt;
+            is_right(rt.alloc(), VECTORS_REFUSED, &dims, number)?,
+            "refused vector {number}"
+        );
+    }
+    for number in 0..6 {
+        assert!(rt;
+            is_right(rt.alloc(), VECTORS, &dims, number)?,
+            "vector {number}"
+        );
+    }
+    let wide = numbers(rt.alloc(), &[2_147_483_647])?;
+    assert!(rt; is_right(rt.alloc(), b"2147483647 0>at 2147483646 values 0", &wide, 0)?);
+    Ok(())
+}
+
+#[test]
+fn matrices(rt: HostRuntime) -> Result<(), Fail> {
+    let dims = numbers(rt.alloc(), &[2, 3])?;
+    for number in 0..5 {
+        assert!(rt;
+            is_right(rt.alloc(), MATRICES_REFUSED, &dims, number)?,
+            "refused matrix {number}"
+        );
+    }
+    for number in 0..2 {
+        assert!(rt;
+            is_right(rt.alloc(), MATRICES, &dims, number)?,
+            "matrix {number}"
+        );
     }
     Ok(())
 }

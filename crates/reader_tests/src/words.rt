@@ -1,6 +1,6 @@
 //! Cases by hand.
 
-use crate::{NumFault, is_name, line_at, read_u64, word_at};
+use sam_text::{NumFault, is_name, line_at, read_u64, word_at};
 use std::test::Fail;
 
 #[test]

@@ -5,7 +5,7 @@ use Rattle.std.proofs.lemmas.List.{length-map}
 use Rattle.sam_model.specs.Lists.{items_at}
 use Rattle.levels.proofs.ConditionLemmas.{storable}
 use Rattle.levels.proofs.RankedLemmas.{held-levels, held-parents, held-values}
-use Rattle.levels.proofs.tests.stored.Goals as goal
+use Rattle.reader_tests.proofs.storages.stored.Goals as goal
 
 pub storage_text-requires-clause-counts : goal.storage_text-requires-clause-counts
 storage_text-requires-clause-counts c =

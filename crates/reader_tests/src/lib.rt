@@ -1,0 +1,15 @@
+//! Tests of the readers: words, statements, program files, tensor files and stored tensors.
+#![tactic(auto)]
+
+#[cfg(test)]
+mod programs;
+#[cfg(test)]
+mod statements;
+#[cfg(test)]
+mod storages;
+#[cfg(test)]
+mod tables;
+#[cfg(test)]
+mod tensor_files;
+#[cfg(test)]
+mod words;
