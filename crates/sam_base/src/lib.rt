@@ -32,3 +32,6 @@ pub const TERMS_MOST: usize = 16;
 
 /// The greatest capacity of a channel; the least is 1.
 pub const CAPACITY_MOST: u32 = 1_048_576;
+
+/// The greatest number of the generated workload; the least is 1.
+pub const LARGE_MOST: u32 = 262_144;
