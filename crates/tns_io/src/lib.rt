@@ -10,4 +10,4 @@ mod values;
 
 pub use entries::read_tns;
 pub use faults::TnsFault;
-pub use results::result_text;
+pub use results::{append_number, append_signed, result_text};

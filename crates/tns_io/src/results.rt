@@ -12,7 +12,8 @@ use sam_base::{DIMENSION_MOST, Name};
 use sam_model::{Tensor, Written};
 use std::alloc::{AllocError, Global};
 
-fn append_number(text: &mut Name, number: u64) -> Result<(), AllocError>
+/// Appends a number.
+pub fn append_number(text: &mut Name, number: u64) -> Result<(), AllocError>
     ensures { OnOk result (text.new ≡ text.old ++ decimal number) }
 {
     let mut buffer = Buffer::new();
@@ -20,7 +21,7 @@ fn append_number(text: &mut Name, number: u64) -> Result<(), AllocError>
 }
 
 /// Appends a number modulo 2^64 as a signed number.
-fn append_signed(text: &mut Name, value: u64) -> Result<(), AllocError>
+pub fn append_signed(text: &mut Name, value: u64) -> Result<(), AllocError>
     ensures { OnOk result (text.new ≡ text.old ++ signed_text value) }
 {
     if value < 1 << 63 {
