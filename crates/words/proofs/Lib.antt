@@ -1,0 +1,4 @@
+pub mod LineLemmas
+pub mod PairLemmas
+pub mod RepeatLemmas
+mod Worked
