@@ -1,0 +1,7 @@
+//! Schedule files: whose turn it is, line by line.
+#![tactic(auto)]
+
+mod reading;
+mod turns;
+
+pub use reading::schedule;
