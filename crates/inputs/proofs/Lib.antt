@@ -1,2 +1,3 @@
 pub mod OneInput
 pub mod TensorLemmas
+pub mod ProgramNames

@@ -1,8 +1,11 @@
 -- The program of a program file, as a part.
 use Rattle.std.specs.Prelude.{◌≡◌, true, ℕ, List, Option, Some, None, Result, Ok, Err}
+use Rattle.std.specs.List.{list_all}
 use Rattle.sam_base.specs.declared.faults.Fault.{Fault}
 use Rattle.sam_base.specs.declared.faults.Fault.TheVariants as fault
 use Rattle.sam_base.specs.declared.faults.ProgramKind.TheVariants.{FileTooLong}
+use Rattle.sam_text.specs.Names.{is_name}
+use Rattle.sam_model.specs.declared.tensors.Tensor.{Tensor}
 use Rattle.sam_model.specs.declared.program.Program.{Program}
 use Rattle.sam_model.specs.Accepted.{accepted}
 use Rattle.program_file.specs.Refusals.{ProgramRefusal}
@@ -25,3 +28,8 @@ accepts p told answer = (answer ≡ Ok p) × (accepted p ≡ true)
 
 abbrev pub program_part : List ℕ → Part Program
 program_part name = followed (reads name) (λ text. followed (gives (program_in text)) accepts)
+
+-- the names of the tensors and of the result are names
+pub record HasNames (p : Program) : Type 0 where
+  pub tensors : list_all (λ (t : Tensor). is_name t.name) p.tensors ≡ true
+  pub result : is_name p.result.name ≡ true

@@ -5,7 +5,7 @@ ghost use Rattle.sam_io.specs.Spans.{KeepsFiles, files_span};
 ghost use Rattle.sam_model.specs.Accepted.{accepted};
 ghost use Rattle.parts.specs.Parts.{gives, followed};
 ghost use Rattle.parts.specs.Answers.{Comes, ComesAlways};
-ghost use Rattle.inputs.specs.Programs.{program_in, accepts, program_part};
+ghost use Rattle.inputs.specs.Programs.{program_in, accepts, program_part, HasNames};
 
 use parts::read_file;
 use program_file::{ProgramFault, read_program};
@@ -18,6 +18,7 @@ use std::alloc::Global;
 fn spelled_program(alloc: Global, text: Option<Name>) -> Result<Program, Fault>
     requires { IfSome text (λ bytes. length bytes ≤ FILE_MOST) }
     ensures accepted { IfOk result (λ p. accepted p ≡ true) }
+    ensures named { IfOk result (λ p. HasNames p) }
     ensures comes { ComesAlways (followed (gives (program_in text)) accepts) result }
 {
     let Some(text) = text else {
@@ -37,6 +38,7 @@ fn spelled_program(alloc: Global, text: Option<Name>) -> Result<Program, Fault>
 pub fn program<F: Files>(alloc: Global, files: &mut F, name: &Name) -> Result<Program, Fault>
     ensures keeps { KeepsFiles F.Files files.old files.new }
     ensures accepted { IfOk result (λ p. accepted p ≡ true) }
+    ensures named { IfOk result (λ p. HasNames p) }
     ensures comes { Comes (program_part name.now) (files_span F.Files files.old files.new) result }
 {
     match read_file(alloc, files, name) {
