@@ -1,0 +1,4 @@
+pub mod DataLemmas
+pub mod NameLemmas
+pub mod LabelTexts
+mod Worked
