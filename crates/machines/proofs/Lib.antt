@@ -1,0 +1,2 @@
+pub mod UnboundedRuns
+pub mod ProgramMachines
