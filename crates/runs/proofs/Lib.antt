@@ -1,0 +1,7 @@
+pub mod AcceptedPrograms
+pub mod CapacityLemmas
+pub mod OneRun
+pub mod RunLaws
+pub mod RunLemmas
+mod Worked
+pub mod WrittenResults

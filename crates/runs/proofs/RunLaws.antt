@@ -1,0 +1,120 @@
+-- The laws of runs, from the laws of plays.
+use Rattle.std.proofs.Common.{◌≡◌, ◌∙◌, ℕ, List, [], ◌∷◌, length, true, ap, sym, subst, refl, Ok, Err}
+use Rattle.std.specs.Prelude.{Option, None, Result}
+use mathlib.Core.List.{map}
+use Rattle.sam_base.specs.declared.faults.Fault.{Fault}
+use Rattle.sam_base.specs.declared.faults.Fault.TheVariants.{Stalled}
+use Rattle.sam_base.specs.declared.faults.Waiting.{Waiting}
+use Rattle.sam_model.specs.declared.tensors.Entries.{Entries}
+use Rattle.sam_model.specs.declared.program.Program.{Program}
+use Rattle.sam_model.specs.Children.{Ranked}
+use Rattle.sam_model.specs.Accepted.{accepted}
+use Rattle.sam_model.specs.Lists.{below}
+use Rattle.sam_model.specs.ResultText.{result_text}
+use Rattle.graph.specs.declared.graphs.Graph.{Graph}
+use Rattle.graph.specs.Wiring.{WellFormed}
+use Rattle.graph.specs.WholeStreams.{Consistent}
+use Rattle.plays.specs.Net.{Net, State, Finished, Reached}
+use Rattle.plays.proofs.Always.{always-kept}
+use Rattle.stepper.specs.NetOf.{net_of, rooms_of}
+use Rattle.stepper.specs.Endings.{waiting_list}
+use Rattle.stepper.proofs.GraphLaws.{one-end-of-graphs, room-suffices, graphs-are-wired}
+use Rattle.stepper.proofs.Stalling.{none_waiting, some_waiting}
+use Rattle.custard_lower.specs.Lowered.{Lowered, low, storages_of}
+use Rattle.custard_lower.specs.Lowering.{program_draft}
+use Rattle.custard_lower.proofs.draft.SmallGraphs.{small-blocks, small-channels}
+use Rattle.custard_lower.proofs.join.SmallDraft.{small-draft}
+use Rattle.custard_lower.proofs.written.LowGraph.{low-lowered}
+use Rattle.machines.proofs.UnboundedRuns.{never-stalls}
+use Rattle.runs.proofs.CapacityLemmas.{unlimited}
+use Rattle.runs.specs.Capacities.{capacity_at}
+use Rattle.runs.specs.Runs.{EndsAt, AnsweredAt}
+use Rattle.runs.specs.Laws.{RunsToOneAnswer, RunsToSomeAnswer, AmpleRoomFinishes, UnlimitedFinishes}
+
+-- the graph of an accepted program keeps what is promised of it
+low-keeps : (p : Program) → accepted p ≡ true → Lowered p (low p)
+low-keeps p is_accepted =
+    let small = small-draft p is_accepted in
+    low-lowered p is_accepted (low p) refl (small-blocks (program_draft p) small) (small-channels (program_draft p) small)
+
+module _ (p : Program) (es : List Entries) (storages : List Ranked) (g : Graph) (caps : List (Option ℕ)) (formed : WellFormed g)
+    (consistent : Consistent storages g) where
+  abbrev net : Net
+  net = net_of storages g
+
+  -- runs end in one state
+  same_end : (s t : State) → EndsAt net (rooms_of caps) s → EndsAt net (rooms_of caps) t → s ≡ t
+  same_end s t ends other =
+      let one = one-end-of-graphs storages g caps formed consistent in
+      one.3 s ends.reached ends.stuck ∙ sym (one.3 t other.reached other.stuck)
+
+  -- where one answer is given
+  same_at : (end : State) (a b : Result (List ℕ) Fault) → AnsweredAt p es net end a → AnsweredAt p es net end b → a ≡ b
+  same_at end (Ok x) (Ok y) (finished, is) (other, so) = ap Ok (is ∙ sym so)
+  same_at end (Ok x) (Err f) (finished, is) (unfinished, so) = absurd (unfinished finished)
+  same_at end (Err e) (Ok y) (unfinished, is) (finished, so) = absurd (unfinished finished)
+  same_at end (Err e) (Err f) (unfinished, is) (other, so) = ap Err (is ∙ sym so)
+
+  -- and some answer is
+  some_at : (end : State) → Reached net (rooms_of caps) end → (list : List Waiting) → waiting_list net end ≡ list →
+      (a : Result (List ℕ) Fault) × AnsweredAt p es net end a
+  some_at end reached [] none =
+      let kept = always-kept net (rooms_of caps) end (graphs-are-wired storages g formed consistent) reached in
+      (Ok (result_text p es), (none_waiting net (rooms_of caps) end kept none, refl))
+  some_at end reached (w ∷ list) waits =
+      (Err (Stalled (waiting_list net end)), (some_waiting net end (λ none. cc), refl))
+
+  -- at a finished state the tensor is answered
+  finished_at : (end : State) (a : Result (List ℕ) Fault) → Finished net end → AnsweredAt p es net end a → a ≡ Ok (result_text p es)
+  finished_at end (Ok text) finished (other, is) = ap Ok is
+  finished_at end (Err f) finished (unfinished, is) = absurd (unfinished finished)
+
+-- ---- of a program's graph
+
+module _ (p : Program) (es : List Entries) (is_accepted : accepted p ≡ true) (each : length es ≡ length p.tensors) where
+  low-formed : WellFormed (low p)
+  low-formed = (low-keeps p is_accepted).formed
+
+  low-consistent : Consistent (storages_of p es) (low p)
+  low-consistent = ((low-keeps p is_accepted).carries es each).consistent
+
+pub runs-to-one-answer : RunsToOneAnswer
+runs-to-one-answer p es caps a b ra rb =
+    let formed = low-formed p es ra.is_accepted ra.each in
+    let consistent = low-consistent p es ra.is_accepted ra.each in
+    let same = same_end p es (storages_of p es) (low p) caps formed consistent ra.end rb.end ra.ends rb.ends in
+    same_at p es (storages_of p es) (low p) caps formed consistent rb.end a b
+    (subst (λ end. AnsweredAt p es (net_of (storages_of p es) (low p)) end a) same ra.answered) rb.answered
+
+pub runs-to-some-answer : RunsToSomeAnswer
+runs-to-some-answer p es caps is_accepted each =
+    let formed = low-formed p es is_accepted each in
+    let consistent = low-consistent p es is_accepted each in
+    let end = one-end-of-graphs (storages_of p es) (low p) caps formed consistent in
+    let answer = some_at p es (storages_of p es) (low p) caps formed consistent end.0 end.1 _ refl in (
+      answer.0,
+      record {
+        is_accepted = is_accepted;
+        each = each;
+        end = end.0;
+        ends = record { reached = end.1; stuck = end.2 };
+        answered = answer.1;
+      },
+    )
+
+pub ample-room-finishes : AmpleRoomFinishes
+ample-room-finishes p es caps a ample run =
+    let formed = low-formed p es run.is_accepted run.each in
+    let consistent = low-consistent p es run.is_accepted run.each in
+    finished_at p es (storages_of p es) (low p) caps formed consistent run.end a
+    (room-suffices (storages_of p es) (low p) caps run.end formed consistent ample run.ends.reached run.ends.stuck) run.answered
+
+pub unlimited-finishes : UnlimitedFinishes
+unlimited-finishes p es caps a given run =
+    let channels = length (low p).channels in
+    let formed = low-formed p es run.is_accepted run.each in
+    let consistent = low-consistent p es run.is_accepted run.each in
+    let alike : map (capacity_at None []) (below channels) ≡ caps = cc in
+    finished_at p es (storages_of p es) (low p) caps formed consistent run.end a
+    (never-stalls (storages_of p es) (low p) caps channels run.end formed consistent (sym alike ∙ sym (unlimited None 0 channels))
+    run.ends.reached run.ends.stuck) run.answered

@@ -1,0 +1,52 @@
+-- What a run of a program's graph answers, from what the machine leaves.
+use Rattle.std.proofs.Common.{◌≡◌, ◌∙◌, ℕ, List, true, ap, sym, subst, Ok, Err}
+use Rattle.std.specs.Prelude.{Option}
+use Rattle.sam_base.specs.declared.faults.Fault.TheVariants.{Stalled}
+use Rattle.sam_base.specs.declared.faults.Waiting.{Waiting}
+use Rattle.sam_model.specs.declared.tensors.Entries.{Entries}
+use Rattle.sam_model.specs.declared.tensors.Written.{Written}
+use Rattle.sam_model.specs.declared.program.Program.{Program}
+use Rattle.sam_model.specs.Children.{Ranked}
+use Rattle.sam_model.specs.Accepted.{accepted}
+use Rattle.sam_model.specs.ResultText.{result_text}
+use Rattle.graph.specs.declared.graphs.Graph.{Graph}
+use Rattle.plays.specs.Net.{Net, State, Finished}
+use Rattle.stepper.specs.NetOf.{net_of, rooms_of}
+use Rattle.stepper.specs.Endings.{waiting_list}
+use Rattle.custard_lower.specs.Lowered.{Lowered, low, storages_of}
+use Rattle.inputs.specs.Tensors.{AreStored}
+use Rattle.machines.proofs.ProgramMachines.{same-net}
+use Rattle.runs.specs.Runs.{EndsAt, RunsTo, LeavesListing, LeavesWaiting}
+
+module _ (p : Program) (g : Graph) (lowered : Lowered p g) (is_accepted : accepted p ≡ true) (es : List Entries)
+    (storages : List Ranked) (are : AreStored p.tensors es storages) (caps : List (Option ℕ)) where
+  abbrev same : net_of storages g ≡ net_of (storages_of p es) (low p)
+  same = same-net p g lowered es storages are
+
+  ends_alike : (end : State) → EndsAt (net_of storages g) (rooms_of caps) end →
+      EndsAt (net_of (storages_of p es) (low p)) (rooms_of caps) end
+  ends_alike end ends = subst (λ (net : Net). EndsAt net (rooms_of caps) end) same ends
+
+  -- it stalls
+  pub stalls_with : (list : List Waiting) → LeavesWaiting storages g caps list → RunsTo p es caps (Err (Stalled list))
+  stalls_with list left = record {
+    is_accepted = is_accepted;
+    each = are.each;
+    end = left.end;
+    ends = ends_alike left.end left.ends;
+    answered = (
+      λ finished. left.unfinished (subst (λ (net : Net). Finished net left.end) (sym same) finished),
+      ap Stalled (left.waiting ∙ ap (λ (net : Net). waiting_list net left.end) same),
+    );
+  }
+
+  -- it finishes
+  pub finishes_with : (levels : ℕ) (w : Written) (text : List ℕ) → LeavesListing storages g caps levels w →
+      text ≡ result_text p es → RunsTo p es caps (Ok text)
+  finishes_with levels w text left is_text = record {
+    is_accepted = is_accepted;
+    each = are.each;
+    end = left.end;
+    ends = ends_alike left.end left.ends;
+    answered = (subst (λ (net : Net). Finished net left.end) same left.finished, is_text);
+  }

@@ -1,0 +1,43 @@
+-- The laws of runs of a program's graph.
+use Rattle.std.specs.Prelude.{◌≡◌, ◌<◌, true, ℕ, List, [], length, Option, Some, None, Result, Ok}
+use Rattle.sam_base.specs.declared.faults.Fault.{Fault}
+use Rattle.sam_model.specs.declared.tensors.Entries.{Entries}
+use Rattle.sam_model.specs.declared.program.Program.{Program}
+use Rattle.sam_model.specs.Accepted.{accepted}
+use Rattle.sam_model.specs.ResultText.{result_text}
+use Rattle.graph.specs.WholeStreams.{whole_stream}
+use Rattle.plays.specs.Net.{AtMost}
+use Rattle.stepper.specs.NetOf.{rooms_of}
+use Rattle.custard_lower.specs.Lowered.{low, storages_of}
+use Rattle.runs.specs.Capacities.{capacities_of}
+use Rattle.runs.specs.Runs.{RunsTo}
+
+-- A run has one answer, whatever is played first.
+abbrev pub RunsToOneAnswer : Type 0
+RunsToOneAnswer =
+    (p : Program) (es : List Entries) (caps : List (Option ℕ)) (a b : Result (List ℕ) Fault) →
+    RunsTo p es caps a → RunsTo p es caps b → a ≡ b
+
+-- It has an answer.
+abbrev pub RunsToSomeAnswer : Type 0
+RunsToSomeAnswer =
+    (p : Program) (es : List Entries) (caps : List (Option ℕ)) → accepted p ≡ true → length es ≡ length p.tensors →
+    (a : Result (List ℕ) Fault) × RunsTo p es caps a
+
+-- each capacity is at least as large as its channel's stream is long
+abbrev pub AmpleRoom : Program → List Entries → List (Option ℕ) → Type 0
+AmpleRoom p es caps =
+    (c : ℕ) → c < length (low p).channels →
+    AtMost (Some (length (whole_stream (storages_of p es) (low p) c))) (rooms_of caps c)
+
+-- With ample room a run answers the tensor that the program denotes: it never stalls.
+abbrev pub AmpleRoomFinishes : Type 0
+AmpleRoomFinishes =
+    (p : Program) (es : List Entries) (caps : List (Option ℕ)) (a : Result (List ℕ) Fault) → AmpleRoom p es caps →
+    RunsTo p es caps a → a ≡ Ok (result_text p es)
+
+-- So does one for which no capacity is given.
+abbrev pub UnlimitedFinishes : Type 0
+UnlimitedFinishes =
+    (p : Program) (es : List Entries) (caps : List (Option ℕ)) (a : Result (List ℕ) Fault) →
+    capacities_of (length (low p).channels) None [] ≡ Ok caps → RunsTo p es caps a → a ≡ Ok (result_text p es)

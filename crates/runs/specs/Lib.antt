@@ -1,0 +1,4 @@
+pub mod Capacities
+pub mod Laws
+pub mod Runs
+pub mod Setups

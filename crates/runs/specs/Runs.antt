@@ -1,0 +1,61 @@
+-- Where a run of a program's graph ends, and what is answered there.
+use Rattle.std.specs.Prelude.{◌≡◌, true, ℕ, List, Option, Result, Ok, Err, length}
+use Rattle.sam_base.specs.declared.faults.Fault.{Fault}
+use Rattle.sam_base.specs.declared.faults.Fault.TheVariants.{Stalled}
+use Rattle.sam_base.specs.declared.faults.Waiting.{Waiting}
+use Rattle.sam_model.specs.declared.tensors.Entries.{Entries}
+use Rattle.sam_model.specs.declared.tensors.Written.{Written}
+use Rattle.sam_model.specs.declared.program.Program.{Program}
+use Rattle.sam_model.specs.Children.{Ranked}
+use Rattle.sam_model.specs.Accepted.{accepted}
+use Rattle.sam_model.specs.ResultText.{result_text}
+use Rattle.graph.specs.declared.graphs.Graph.{Graph}
+use Rattle.graph.specs.Writers.{written_listing}
+use Rattle.plays.specs.Net.{Net, Rooms, State, Stuck, Finished, Reached}
+use Rattle.stepper.specs.NetOf.{net_of, rooms_of}
+use Rattle.stepper.specs.Endings.{waiting_list}
+use Rattle.custard_lower.specs.Lowered.{low, storages_of}
+use Rattle.parts.specs.Parts.{Part}
+use Rattle.runs.specs.declared.running.Outcome.{Outcome}
+use Rattle.runs.specs.declared.running.Outcome.TheVariants.{Listing, Waits}
+
+-- a state in which runs under these limits end: a play reaches it, and it is stuck
+pub record EndsAt (net : Net) (rooms : Rooms) (end : State) : Type 0 where
+  pub reached : Reached net rooms end
+  pub stuck : Stuck net rooms end
+
+-- what is answered at that state: the denoted tensor where all blocks are finished, else the blocks that wait
+abbrev pub AnsweredAt : Program → List Entries → Net → State → Result (List ℕ) Fault → Type 0
+AnsweredAt p es net end (Ok text) = Finished net end × (text ≡ result_text p es)
+AnsweredAt p es net end (Err fault) = ¬ Finished net end × (fault ≡ Stalled (waiting_list net end))
+
+-- A run of an accepted program's graph over its entries, under these capacities, whatever was played first.
+pub record RunsTo (p : Program) (es : List Entries) (caps : List (Option ℕ)) (answer : Result (List ℕ) Fault) : Type 0 where
+  pub is_accepted : accepted p ≡ true
+  pub each : length es ≡ length p.tensors
+  pub end : State
+  pub ends : EndsAt (net_of (storages_of p es) (low p)) (rooms_of caps) end
+  pub answered : AnsweredAt p es (net_of (storages_of p es) (low p)) end answer
+
+abbrev pub run_part : Program → List Entries → List (Option ℕ) → Part (List ℕ)
+run_part p es caps told answer = RunsTo p es caps answer
+
+-- ---- as the machine leaves it
+
+-- the run of a graph over what is stored ended with this listing
+pub record LeavesListing (storages : List Ranked) (g : Graph) (caps : List (Option ℕ)) (levels : ℕ) (w : Written) : Type 0 where
+  pub end : State
+  pub ends : EndsAt (net_of storages g) (rooms_of caps) end
+  pub finished : Finished (net_of storages g) end
+  pub written : w ≡ written_listing storages g levels
+
+-- it ended with these blocks waiting
+pub record LeavesWaiting (storages : List Ranked) (g : Graph) (caps : List (Option ℕ)) (list : List Waiting) : Type 0 where
+  pub end : State
+  pub ends : EndsAt (net_of storages g) (rooms_of caps) end
+  pub unfinished : ¬ Finished (net_of storages g) end
+  pub waiting : list ≡ waiting_list (net_of storages g) end
+
+abbrev pub Leaves : List Ranked → Graph → List (Option ℕ) → ℕ → Outcome → Type 0
+Leaves storages g caps levels (Listing w) = LeavesListing storages g caps levels w
+Leaves storages g caps levels (Waits list) = LeavesWaiting storages g caps list

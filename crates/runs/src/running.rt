@@ -1,0 +1,75 @@
+//! A run of a program's graph on the machine, and what is answered of it.
+
+ghost use Rattle.std.specs.Prelude.{◌≡◌, List, true, IfOk};
+ghost use Rattle.sam_model.specs.declared.tensors.Entries.{Entries};
+ghost use Rattle.sam_model.specs.Accepted.{accepted};
+ghost use Rattle.machines.specs.Runnable.{Runnable};
+ghost use Rattle.custard_lower.specs.Lowered.{Lowered};
+ghost use Rattle.inputs.specs.Tensors.{AreStored};
+ghost use Rattle.parts.specs.Answers.{ComesAlways};
+ghost use Rattle.runs.specs.Setups.{SetupFits};
+ghost use Rattle.runs.specs.Runs.{Leaves, run_part};
+
+use crate::setup::Setup;
+use any_block::gather;
+use graph::Graph;
+use levels::Storage;
+use machines::machine_for;
+use sam_base::{Fault, Items, Name, Waiting};
+use sam_model::{Program, Written};
+use std::alloc::{AllocError, Global};
+use stepper::{Ending, NoTap};
+use tns_io::result_text;
+
+/// What a run leaves: the listing that its writers keep, or the blocks that wait.
+#[derive(Drop)]
+pub(crate) enum Outcome {
+    Listing(Written),
+    Waits(Items<Waiting>),
+}
+
+/// Plays the schedule, and then goes on until no block can move.
+fn run(
+    alloc: Global,
+    g: &Graph,
+    storages: &[Storage],
+    setup: &Setup,
+    levels: u8,
+) -> Result<Outcome, AllocError>
+    requires runnable { Runnable storages.now g.now }
+    requires fits { SetupFits g.now setup.now }
+    ensures { IfOk result (Leaves storages.now g.now setup.now.capacities.each levels) }
+{
+    let mut machine = machine_for(alloc, g, storages, &setup.capacities)?;
+    machine.play(&setup.schedule, &mut NoTap)?;
+    match machine.finish(&mut NoTap)? {
+        Ending::Finished => Ok(Outcome::Listing(gather(alloc, g, machine.blocks(), levels)?)),
+        Ending::Stalled(list) => Ok(Outcome::Waits(list)),
+    }
+}
+
+/// The text of the tensor that a program denotes, from its graph and its tensors as they are stored; or the blocks that wait,
+/// where the run stalls.
+pub fn run_program(
+    alloc: Global,
+    p: &Program,
+    g: &Graph,
+    storages: &[Storage],
+    setup: &Setup,
+) -> Result<Name, Fault>
+    requires accepted { accepted p.now ≡ true }
+    requires lowered { Lowered p.now g.now }
+    requires stored { (entries : List Entries) × AreStored p.now.tensors entries storages.now }
+    requires fits { SetupFits g.now setup.now }
+    ensures { (entries : List Entries) → AreStored p.now.tensors entries storages.now →
+        ComesAlways (run_part p.now entries setup.now.capacities.each) result }
+{
+    match run(alloc, g, storages, setup, p.result.order.len() as u8) {
+        Err(_) => Err(Fault::OutOfMemory),
+        Ok(Outcome::Waits(list)) => Err(Fault::Stalled(list)),
+        Ok(Outcome::Listing(written)) => match result_text(alloc, &p.result, &written) {
+            Ok(text) => Ok(text),
+            Err(_) => Err(Fault::OutOfMemory),
+        },
+    }
+}
