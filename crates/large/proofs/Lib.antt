@@ -1,0 +1,3 @@
+pub mod StoringLemmas
+pub mod SummaryLemmas
+mod Worked
