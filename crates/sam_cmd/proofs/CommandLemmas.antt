@@ -1,27 +1,76 @@
 -- Of each command at most one answer is due.
 use Rattle.std.proofs.Common.{ℕ, List}
 use Rattle.std.specs.Prelude.{codes, Ok}
-use Rattle.sam_model.specs.ResultText.{result_text}
-use Rattle.parts.specs.Parts.{followed, gives, each_part}
+use Rattle.sam_model.specs.declared.tensors.Entries.{Entries}
+use Rattle.sam_model.specs.declared.program.Program.{Program}
+use Rattle.custard_lower.specs.Lowered.{low}
+use Rattle.graph_json.specs.Spelled.{graph_text}
+use Rattle.traces.specs.Traces.{streams_of, moment_of}
+use Rattle.large.specs.Summaries.{large_text}
+use Rattle.parts.specs.Parts.{Part, followed, gives, each_part}
 use Rattle.parts.specs.Answers.{AtMostOne}
-use Rattle.parts.proofs.DueLemmas.{one_gives, one_followed, one_each}
-use Rattle.sam_cmd.specs.declared.command.Command.{Command}
-use Rattle.sam_cmd.specs.declared.command.Command.TheVariants.{Check, Step}
+use Rattle.parts.proofs.DueLemmas.{one_gives, one_followed}
 use Rattle.inputs.specs.Programs.{program_part}
 use Rattle.inputs.specs.Tensors.{tensor_part}
-use Rattle.inputs.proofs.OneInput.{one_program, one_tensor}
-use Rattle.sam_cmd.specs.Commands.{asked_command, text_part, answer_part}
+use Rattle.inputs.proofs.OneInput.{one_program}
+use Rattle.words.specs.declared.asking.Command.{Command}
+use Rattle.words.specs.declared.asking.Command.TheVariants.{Check, Lower, Streams, Step, Moment, Large}
+use Rattle.words.specs.declared.asking.Options.{Options}
+use Rattle.words.specs.Asked.{asked_of}
+use Rattle.runs.specs.declared.setup.Setup.{Setup}
+use Rattle.runs.specs.Setups.{setup_part}
+use Rattle.runs.proofs.OneRun.{one_setup, one_run}
+use Rattle.sam_cmd.specs.declared.running.Wanted.{Wanted}
+use Rattle.sam_cmd.specs.declared.running.Wanted.TheVariants as wanted
+use Rattle.sam_cmd.specs.Commands.{asked_or_usage, check_part, lower_part, streams_part, wanted_part, running_part, text_part, answer_part}
+use Rattle.sam_cmd.proofs.TensorLemmas.{one_over}
+
+one_check : (program : List ℕ) → AtMostOne (check_part program)
+one_check program =
+    one_followed (program_part program) (λ p. gives (Ok (codes "accepted\n"))) (one_program program)
+    (λ p. one_gives (Ok (codes "accepted\n")))
+
+one_lower : (program : List ℕ) → AtMostOne (lower_part program)
+one_lower program =
+    one_followed (program_part program) (λ p. gives (Ok (graph_text p (low p)))) (one_program program)
+    (λ p. one_gives (Ok (graph_text p (low p))))
+
+one_streams : (program : List ℕ) → AtMostOne (streams_part program)
+one_streams program =
+    one_followed (program_part program)
+    (λ p. followed (each_part tensor_part p.tensors) (λ entries. gives (Ok (streams_of p entries))))
+    (one_program program) (λ p.
+    one_over p.tensors (λ entries. gives (Ok (streams_of p entries))) (λ entries. one_gives (Ok (streams_of p entries))))
+
+-- after a program, its graph's setup and its tensors
+module _ (options : Options) (text : Program → Setup → List Entries → Part (List ℕ))
+    (one : (p : Program) (setup : Setup) (entries : List Entries) → AtMostOne (text p setup entries)) where
+  one_setting : (program : List ℕ) →
+      AtMostOne (followed (program_part program) (λ p.
+      followed (setup_part (low p) options) (λ setup.
+      followed (each_part tensor_part p.tensors) (text p setup))))
+  one_setting program =
+      one_followed (program_part program)
+      (λ p. followed (setup_part (low p) options) (λ setup. followed (each_part tensor_part p.tensors) (text p setup)))
+      (one_program program) (λ p.
+      one_followed (setup_part (low p) options) (λ setup. followed (each_part tensor_part p.tensors) (text p setup))
+      (one_setup (low p) options) (λ setup. one_over p.tensors (text p setup) (one p setup)))
+
+one_wanted : (wanted : Wanted) (p : Program) (setup : Setup) (entries : List Entries) → AtMostOne (wanted_part wanted p setup entries)
+one_wanted wanted.Result p setup entries = one_run p entries setup.capacities.each
+one_wanted wanted.Moment p setup entries = one_gives (Ok (moment_of p entries setup.capacities.each setup.schedule))
+
+one_running : (wanted : Wanted) (program : List ℕ) (options : Options) → AtMostOne (running_part wanted program options)
+one_running wanted program options = one_setting options (wanted_part wanted) (one_wanted wanted) program
 
 one_text : (command : Command) → AtMostOne (text_part command)
-one_text (Check name) =
-    one_followed (program_part name) (λ p. gives (Ok (codes "accepted\n"))) (one_program name)
-    (λ p. one_gives (Ok (codes "accepted\n")))
-one_text (Step name) =
-    one_followed (program_part name)
-    (λ p. followed (each_part tensor_part p.tensors) (λ entries. gives (Ok (result_text p entries)))) (one_program name)
-    (λ p. one_followed (each_part tensor_part p.tensors) (λ entries. gives (Ok (result_text p entries)))
-    (one_each tensor_part one_tensor p.tensors) (λ entries. one_gives (Ok (result_text p entries))))
+one_text (Check program) = one_check program
+one_text (Lower program) = one_lower program
+one_text (Streams program) = one_streams program
+one_text (Step program options) = one_running wanted.Result program options
+one_text (Moment program options) = one_running wanted.Moment program options
+one_text (Large number) = one_gives (Ok (large_text number))
 
 pub one_answer : (words : List (List ℕ)) → AtMostOne (answer_part words)
 one_answer words =
-    one_followed (gives (asked_command words)) text_part (one_gives (asked_command words)) one_text
+    let asked = asked_or_usage (asked_of words) in one_followed (gives asked) text_part (one_gives asked) one_text

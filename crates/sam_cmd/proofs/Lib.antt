@@ -1,6 +1,5 @@
-pub mod AcceptedPrograms
 pub mod CommandLemmas
+pub mod CompleteLemmas
 pub mod ReportLemmas
-pub mod UnboundedRuns
-pub mod WrittenResults
+pub mod TensorLemmas
 mod Worked

@@ -1,33 +1,68 @@
 -- The commands as chains of parts: what each answers, in the order in which it may be refused.
-use Rattle.std.specs.Prelude.{ℕ, cond, List, [], ◌∷◌, codes, nat_eq, Result, Ok, Err}
-use Rattle.std.specs.Cmp.Lexicographic.{pointwise}
+use Rattle.std.specs.Prelude.{ℕ, List, codes, Option, Some, None, Result, Ok, Err}
 use Rattle.sam_base.specs.declared.faults.Fault.{Fault}
 use Rattle.sam_base.specs.declared.faults.Fault.TheVariants.{Usage}
-use Rattle.sam_model.specs.ResultText.{result_text}
+use Rattle.sam_model.specs.declared.program.Program.{Program}
+use Rattle.sam_model.specs.declared.tensors.Entries.{Entries}
+use Rattle.custard_lower.specs.Lowered.{low}
+use Rattle.graph_json.specs.Spelled.{graph_text}
+use Rattle.traces.specs.Traces.{streams_of, moment_of}
+use Rattle.large.specs.Summaries.{large_text}
 use Rattle.parts.specs.Parts.{Part, gives, followed, each_part}
 use Rattle.inputs.specs.Programs.{program_part}
 use Rattle.inputs.specs.Tensors.{tensor_part}
-use Rattle.sam_cmd.specs.declared.command.Command.{Command}
-use Rattle.sam_cmd.specs.declared.command.Command.TheVariants.{Check, Step}
+use Rattle.words.specs.declared.asking.Command.{Command}
+use Rattle.words.specs.declared.asking.Command.TheVariants.{Check, Lower, Streams, Step, Moment, Large}
+use Rattle.words.specs.declared.asking.Options.{Options}
+use Rattle.words.specs.Asked.{asked_of}
+use Rattle.runs.specs.declared.setup.Setup.{Setup}
+use Rattle.runs.specs.Setups.{setup_part}
+use Rattle.runs.specs.Runs.{run_part}
+use Rattle.sam_cmd.specs.declared.running.Wanted.{Wanted}
+use Rattle.sam_cmd.specs.declared.running.Wanted.TheVariants as wanted
 
--- a command by its word
-abbrev pub named_command : List ℕ → List ℕ → Result Command Fault
-named_command word name =
-    cond (pointwise nat_eq word (codes "check")) (Ok (Check name)) (cond (pointwise nat_eq word (codes "step")) (Ok (Step name)) (Err Usage))
+-- the command that is asked; words that ask for none are answered by the usage
+abbrev pub asked_or_usage : Option Command → Result Command Fault
+asked_or_usage None = Err Usage
+asked_or_usage (Some command) = Ok command
 
--- the command that the words ask for
-abbrev pub asked_command : List (List ℕ) → Result Command Fault
-asked_command (word ∷ name ∷ []) = named_command word name
-asked_command _ = Err Usage
+-- ---- the commands
+
+abbrev pub check_part : List ℕ → Part (List ℕ)
+check_part program = followed (program_part program) (λ p. gives (Ok (codes "accepted\n")))
+
+abbrev pub lower_part : List ℕ → Part (List ℕ)
+lower_part program = followed (program_part program) (λ p. gives (Ok (graph_text p (low p))))
+
+abbrev pub streams_part : List ℕ → Part (List ℕ)
+streams_part program =
+    followed (program_part program) (λ p.
+    followed (each_part tensor_part p.tensors) (λ entries.
+    gives (Ok (streams_of p entries))))
+
+-- what is wanted of a program's graph, under a setup and over entries
+abbrev pub wanted_part : Wanted → Program → Setup → List Entries → Part (List ℕ)
+wanted_part wanted.Result p setup entries = run_part p entries setup.capacities.each
+wanted_part wanted.Moment p setup entries = gives (Ok (moment_of p entries setup.capacities.each setup.schedule))
+
+abbrev pub running_part : Wanted → List ℕ → Options → Part (List ℕ)
+running_part wanted program options =
+    followed (program_part program) (λ p.
+    followed (setup_part (low p) options) (λ setup.
+    followed (each_part tensor_part p.tensors) (wanted_part wanted p setup)))
+
+abbrev pub large_part : ℕ → Part (List ℕ)
+large_part number = gives (Ok (large_text number))
 
 -- the text of a command
 abbrev pub text_part : Command → Part (List ℕ)
-text_part (Check name) = followed (program_part name) (λ p. gives (Ok (codes "accepted\n")))
-text_part (Step name) =
-    followed (program_part name) (λ p.
-    followed (each_part tensor_part p.tensors) (λ entries.
-    gives (Ok (result_text p entries))))
+text_part (Check program) = check_part program
+text_part (Lower program) = lower_part program
+text_part (Streams program) = streams_part program
+text_part (Step program options) = running_part wanted.Result program options
+text_part (Moment program options) = running_part wanted.Moment program options
+text_part (Large number) = large_part number
 
 -- what the words answer
 abbrev pub answer_part : List (List ℕ) → Part (List ℕ)
-answer_part words = followed (gives (asked_command words)) text_part
+answer_part words = followed (gives (asked_or_usage (asked_of words))) text_part

@@ -1,77 +1,39 @@
 //! What a command answers: its text, or why there is none.
 
-ghost use Rattle.std.specs.Prelude.{◌≡◌, codes, map, string_bytes, true, Ok};
+ghost use Rattle.std.specs.Prelude.{map, string_bytes};
 ghost use Rattle.sam_io.specs.Spans.{KeepsFiles, files_span};
-ghost use Rattle.sam_model.specs.Accepted.{accepted};
-ghost use Rattle.sam_model.specs.ResultText.{result_text};
-ghost use Rattle.parts.specs.Parts.{gives, followed, each_part};
-ghost use Rattle.parts.specs.Answers.{Comes, ComesAlways, Settles};
+ghost use Rattle.parts.specs.Answers.{Comes, Settles};
+ghost use Rattle.words.specs.Asked.{IsInBounds};
 ghost use Rattle.sam_cmd.specs.Commands.{text_part, answer_part};
-ghost use Rattle.inputs.specs.Tensors.{tensor_part};
 
-use crate::command::{Command, command_of};
-use crate::run::run_text;
-use inputs::{program, storages};
+use crate::asked::asked_command;
+use crate::check::check;
+use crate::lower::lower;
+use crate::running::{Wanted, running};
+use crate::streams::streams;
+use crate::workload::large;
 use sam_base::{Fault, Name};
 use sam_io::Files;
-use sam_model::Program;
 use std::alloc::Global;
+use words::Command;
 
-/// The text of an accepted program.
-fn accepted_text(alloc: Global) -> Result<Name, Fault>
-    ensures { ComesAlways (gives (Ok (codes "accepted\n"))) result }
-{
-    match Name::from_slice(alloc, b"accepted\n") {
-        Ok(text) => Ok(text),
-        Err(_) => Err(Fault::OutOfMemory),
-    }
-}
-
-/// Whether the program is accepted.
-fn check<F: Files>(alloc: Global, files: &mut F, name: &Name) -> Result<Name, Fault>
-    ensures keeps { KeepsFiles F.Files files.old files.new }
-    ensures comes { Comes (text_part (Command.Check name.now)) (files_span F.Files files.old files.new) result }
-{
-    match program(alloc, files, name) {
-        Err(fault) => Err(fault),
-        Ok(_) => accepted_text(alloc),
-    }
-}
-
-/// The tensor that the program denotes.
-fn computed_text<F: Files>(alloc: Global, files: &mut F, p: &Program) -> Result<Name, Fault>
-    requires { accepted p.now ≡ true }
-    ensures keeps { KeepsFiles F.Files files.old files.new }
-    ensures comes { Comes (followed (each_part tensor_part p.now.tensors) (λ entries. gives (Ok (result_text p.now entries))))
-        (files_span F.Files files.old files.new) result }
-{
-    match storages(alloc, files, p.tensors.as_slice()) {
-        Err(fault) => Err(fault),
-        Ok(storages) => match run_text(alloc, p, storages.as_slice()) {
-            Ok(text) => Ok(text),
-            Err(_) => Err(Fault::OutOfMemory),
-        },
-    }
-}
-
-/// Reads the program, and answers the tensor that it denotes.
-fn step<F: Files>(alloc: Global, files: &mut F, name: &Name) -> Result<Name, Fault>
-    ensures keeps { KeepsFiles F.Files files.old files.new }
-    ensures comes { Comes (text_part (Command.Step name.now)) (files_span F.Files files.old files.new) result }
-{
-    match program(alloc, files, name) {
-        Err(fault) => Err(fault),
-        Ok(program) => computed_text(alloc, files, &program),
-    }
-}
-
+/// The text of a command.
 fn text<F: Files>(alloc: Global, files: &mut F, command: &Command) -> Result<Name, Fault>
+    requires { IsInBounds command.now }
     ensures keeps { KeepsFiles F.Files files.old files.new }
     ensures comes { Comes (text_part command.now) (files_span F.Files files.old files.new) result }
 {
     match command {
-        Command::Check(name) => check(alloc, files, name),
-        Command::Step(name) => step(alloc, files, name),
+        Command::Check { program } => check(alloc, files, program),
+        Command::Lower { program } => lower(alloc, files, program),
+        Command::Streams { program } => streams(alloc, files, program),
+        Command::Step { program, options } => {
+            running(alloc, files, Wanted::Result, program, options)
+        }
+        Command::Moment { program, options } => {
+            running(alloc, files, Wanted::Moment, program, options)
+        }
+        Command::Large { number } => large(alloc, *number),
     }
 }
 
@@ -79,7 +41,7 @@ fn chain<F: Files>(alloc: Global, words: &[String], files: &mut F) -> Result<Nam
     ensures keeps { KeepsFiles F.Files files.old files.new }
     ensures comes { Comes (answer_part (map string_bytes words.now)) (files_span F.Files files.old files.new) result }
 {
-    match command_of(alloc, words) {
+    match asked_command(alloc, words) {
         Err(fault) => Err(fault),
         Ok(command) => text(alloc, files, &command),
     }

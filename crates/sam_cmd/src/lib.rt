@@ -9,20 +9,37 @@ ghost use Rattle.sam_io.specs.Spans.{files_span, sink_span};
 ghost use Rattle.sam_cmd.specs.Answers.{Answered};
 
 mod answer;
-mod command;
+mod asked;
+mod check;
+mod laws;
+mod lower;
 mod report;
-mod run;
+mod running;
+mod streams;
+mod workload;
 
 use answer::answer;
+pub use laws::step_completes;
 use report::{report, say};
 use sam_io::{Files, Sink, write_whole};
 use std::alloc::Global;
 
 /// Runs a command, and answers its exit status.
 ///
-/// `check FILE` reads a program file, and writes `accepted` and a newline. `step FILE` reads a program file and the files of
-/// all its tensors, and writes the tensor that the statement denotes: the sum of products over all index tuples, modulo
-/// 2^64, at the coordinates of its pattern. The contract says which other answers there are and when each comes.
+/// - `check FILE` reads a program file, and writes `accepted` and a newline.
+/// - `lower FILE` reads it too, and writes the graph that the program is lowered to, as JSON.
+/// - `streams FILE` reads the files of all its tensors too, runs the graph over them, and writes the whole stream of each
+///   channel.
+/// - `step FILE` writes the tensor that the statement denotes: the sum of products over all index tuples, modulo 2^64, at the
+///   coordinates of its pattern. Its options are `--capacity n`, how many tokens each channel may hold, `--of c=n,c=n`, the
+///   same of single channels, and `--schedule FILE`, whose turn it is before the run goes on by itself. A run in which no block
+///   can move and one isn't finished answers the blocks that wait.
+/// - `moment FILE` reads what `step` reads, with the same options, and writes what was sent on each channel when the schedule
+///   ends.
+/// - `large N` makes the workload of that number, runs its graph, and writes how many entries the result has, the sum of their
+///   values and the number of events.
+///
+/// The contract says which other answers there are and when each comes.
 pub fn sam_serial<F: Files, O: Sink, E: Sink>(
     alloc: Global,
     words: &[String],

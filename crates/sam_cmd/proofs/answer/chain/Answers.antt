@@ -2,15 +2,18 @@ use Rattle.std.proofs.Common.{map, string_bytes}
 use Rattle.sam_io.specs.Spans.{files_span}
 use Rattle.parts.specs.Parts.{gives}
 use Rattle.parts.proofs.ChainLemmas.{comes_first, comes_from}
-use Rattle.sam_cmd.specs.Commands.{asked_command, text_part}
+use Rattle.words.specs.Asked.{asked_of}
+use Rattle.sam_cmd.specs.Commands.{asked_or_usage, text_part}
 use Rattle.sam_cmd.proofs.answer.chain.Goals as goal
 
 pub returns-in-Ok-clause-comes : goal.returns-in-Ok-clause-comes
 returns-in-Ok-clause-comes g c =
-    comes_from (gives (asked_command (map string_bytes c.args.words.now))) text_part
-    (files_span g.F.Files c.args.files.now c.text.new.files) c.in-Ok.command c.text.result c.in-Ok.ensures c.text.ensures.comes
+    comes_from (gives (asked_or_usage (asked_of (map string_bytes c.args.words.now)))) text_part
+    (files_span g.F.Files c.args.files.now c.text.new.files) c.in-Ok.command c.text.result c.in-Ok.ensures.comes
+    c.text.ensures.comes
 
 pub returns-in-Err-clause-comes : goal.returns-in-Err-clause-comes
 returns-in-Err-clause-comes g c =
     let files = files_span g.F.Files c.args.files.now c.args.files.now in
-    comes_first (gives (asked_command (map string_bytes c.args.words.now))) text_part files c.in-Err.fault (c.in-Err.ensures files)
+    comes_first (gives (asked_or_usage (asked_of (map string_bytes c.args.words.now)))) text_part files c.in-Err.fault
+    (c.in-Err.ensures.comes files)

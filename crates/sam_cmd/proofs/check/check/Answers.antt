@@ -3,7 +3,7 @@ use Rattle.sam_io.specs.Spans.{files_span}
 use Rattle.parts.specs.Parts.{gives}
 use Rattle.parts.proofs.ChainLemmas.{comes_then}
 use Rattle.inputs.specs.Programs.{program_part}
-use Rattle.sam_cmd.proofs.answer.check.Goals as goal
+use Rattle.sam_cmd.proofs.check.check.Goals as goal
 
 pub returns-clause-comes : goal.returns-clause-comes
 returns-clause-comes g c =

@@ -1,0 +1,24 @@
+-- Where all that a command reads is accepted, it has its text.
+use Rattle.std.specs.Prelude.{ℕ, List, Option, Ok}
+use Rattle.sam_io.specs.Outside.{Told}
+use Rattle.sam_model.specs.declared.tensors.Entries.{Entries}
+use Rattle.sam_model.specs.declared.program.Program.{Program}
+use Rattle.sam_model.specs.ResultText.{result_text}
+use Rattle.custard_lower.specs.Lowered.{low}
+use Rattle.parts.specs.Parts.{each_part}
+use Rattle.inputs.specs.Programs.{program_part}
+use Rattle.inputs.specs.Tensors.{tensor_part}
+use Rattle.words.specs.declared.asking.Options.{Options}
+use Rattle.runs.specs.declared.setup.Setup.{Setup}
+use Rattle.runs.specs.Setups.{setup_part}
+use Rattle.runs.specs.Laws.{AmpleRoom}
+use Rattle.sam_cmd.specs.declared.running.Wanted.TheVariants.{Result}
+use Rattle.sam_cmd.specs.Commands.{running_part}
+
+-- With ample room on each channel `step` answers the tensor that the program denotes.
+abbrev pub StepCompletes : Type 0
+StepCompletes =
+    (told : Option Told) (program : List ℕ) (options : Options) (p : Program) (setup : Setup) (entries : List Entries) →
+    program_part program told (Ok p) → setup_part (low p) options told (Ok setup) →
+    each_part tensor_part p.tensors told (Ok entries) → AmpleRoom p entries setup.capacities.each →
+    running_part Result program options told (Ok (result_text p entries))

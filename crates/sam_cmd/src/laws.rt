@@ -1,0 +1,11 @@
+//! The laws of commands.
+//!
+//! A function here has no body but its contract, which speaks of the same parts as that of `sam_serial`.
+
+ghost use Rattle.sam_cmd.specs.Laws.{StepCompletes};
+
+/// Where the files that `step` reads are there and accepted, its options name channels that are there, and each given capacity
+/// is at least as large as its channel's stream is long, the answer that is due is the tensor that the program denotes.
+pub fn step_completes()
+    ensures { StepCompletes }
+{}
