@@ -1,0 +1,77 @@
+//! The rule of a wire as the protocol of its channel, and the kinds of step that keep it.
+
+use crate::known::Known;
+use crate::message::Sent;
+use crossbeam_channel::protocol::{Lesson, Outcome, Protocol, Split};
+use std::marker::{Brand, PhantomData};
+
+/// The rule of a wire.
+pub struct Wired;
+
+impl Protocol<Sent, Known> for Wired {
+    ghost use Rattle.ruled_wires.specs.Rule.{Wire, unmade};
+
+    ghost holds = { λ items views. Wire items views };
+
+    ghost first = { unmade };
+}
+
+/// The stream and the capacity that a wire is made for. A call at `Brand` chooses them.
+pub trait Chosen {
+    ghost use Rattle.std.specs.Prelude.{ℕ, List};
+    ghost use Rattle.stream_tokens.specs.declared.Token.{Token};
+
+    ghost stream: { List Token };
+
+    ghost capacity: { ℕ };
+}
+
+impl Chosen for Brand {
+    ghost use Rattle.std.specs.Prelude.{[]};
+
+    ghost stream = { [] };
+
+    ghost capacity = { 0 };
+}
+
+/// Gives a wire its stream and its capacity, and cuts the first view in the sender's and the receiver's.
+pub struct Cut<C> {
+    of: PhantomData<C>,
+}
+
+impl<C: Chosen> Split<Known> for Cut<C> {
+    ghost use Rattle.std.specs.Prelude.{false};
+    ghost use Rattle.ruled_wires.specs.Rule.{sender_view, receiver_view};
+
+    ghost left = { λ v. sender_view C.stream C.capacity 0 false };
+
+    ghost right = { λ v. receiver_view C.stream C.capacity 0 false };
+}
+
+/// A put: the sender knows of one message more.
+pub struct Puts;
+
+impl Outcome<Sent, Known> for Puts {
+    ghost use Rattle.std.specs.Prelude.{◌≡◌};
+    ghost use Rattle.ruled_wires.specs.Rule.{after_put};
+
+    ghost then = { λ v x w. w ≡ after_put v x };
+}
+
+impl Lesson<Sent, Known> for Puts {
+    ghost fact = { λ v items. Unit {0} };
+}
+
+/// A take: the message is the next one of the stream, and the receiver knows of it.
+pub struct Takes;
+
+impl Outcome<Sent, Known> for Takes {
+    ghost use Rattle.std.specs.Prelude.{◌≡◌};
+    ghost use Rattle.ruled_wires.specs.Rule.{after_take, IsNext};
+
+    ghost then = { λ v x w. IsNext v.stream v.taken x × (w ≡ after_take v x) };
+}
+
+impl Lesson<Sent, Known> for Takes {
+    ghost fact = { λ v items. Unit {0} };
+}
