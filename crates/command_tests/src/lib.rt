@@ -1,16 +1,26 @@
-//! Tests of the commands: worked cases through the one call over files and sinks in memory, the machine on a lowered graph,
-//! and the adapters over real files and the standard streams.
+//! Tests of the commands: transcripts of worked cases through the one call over files and sinks in memory, the machine on a
+//! lowered graph, and the adapters over real files and the standard streams.
 //!
 //! They stand in a crate of their own, so that the crates that they test are proved once.
 #![tactic(auto)]
 
 #[cfg(test)]
-mod cases;
+mod channels;
+#[cfg(test)]
+mod command_lines;
+#[cfg(test)]
+mod graphs;
+#[cfg(test)]
+mod limits;
 #[cfg(test)]
 mod machine;
+#[cfg(test)]
+mod options;
 #[cfg(test)]
 mod outside;
 #[cfg(test)]
 mod refusals;
 #[cfg(test)]
 mod results;
+#[cfg(test)]
+mod transcripts;

@@ -1,252 +1,445 @@
 //! The results that `step` writes.
 
-use crate::cases::{COPY, Case, PRODUCT, Texts, VECTORS, holds, prints};
+use crate::transcripts::replayed;
 use std::test::Fail;
+
+const PRODUCTS: &str = r"--- p.sam
+| tensor b 4 c 1 b.tns
+| tensor c 4 c 1 c.tns
+| result x 4 c 1
+| compute x(i) = b(i) * c(i)
+| loops i
+--- b.tns
+| 1 2
+| 3 5
+--- c.tns
+| 3 7
+| 4 1
+$ step p.sam
+> 3 35
+# nothing in common
+--- b.tns
+| 1 2
+--- c.tns
+| 3 7
+$ step p.sam
+--- b.tns
+| 4 1
+--- c.tns
+| 3 7
+| 4 1
+$ step p.sam
+> 4 1
+--- b.tns
+| # c
+|
+| 3 2
+| 3 3.0
+$ step p.sam
+> 3 35
+--- b.tns
+| 3 -5
+$ step p.sam
+> 3 -35
+# one tensor twice
+--- p.sam
+| tensor b 4 c 1 b.tns
+| result x 4 c 1
+| compute x(i) = b(i) * b(i)
+| loops i
+--- b.tns
+| 1 2
+| 3 5
+$ step p.sam
+> 1 4
+> 3 25
+--- p.sam
+| tensor b 4 c 1 b.tns
+| result x 4x4 cc 1,2
+| compute x(i,j) = b(i) * b(j)
+| loops i j
+$ step p.sam
+> 1 1 4
+> 1 3 10
+> 3 1 10
+> 3 3 25
+# comments, blanks, other names, no newline at the end, and a tensor that the statement doesn't name
+--- p.sam
+| # p
+|
+|  tensor d 7 c 1 d.tns
+| tensor u 04 c 01 b.tns
+| tensor v 4 c 1 c.tns
+| result w 4 c 1
+| compute w(k)=v(k)*u(k)
+| loops k
+|~
+--- d.tns
+| 7 1
+$ step p.sam
+> 3 35
+# a sign and literals
+--- p.sam
+| tensor b 4 c 1 b.tns
+| tensor c 4 c 1 c.tns
+| result x 4 c 1
+| compute x(i) = -b(i) * c(i)
+| loops i
+$ step p.sam
+> 3 -35
+--- p.sam
+| tensor b 4 c 1 b.tns
+| tensor c 4 c 1 c.tns
+| result x 4 c 1
+| compute x(i) = 2 * b(i) * c(i) * 3
+| loops i
+$ step p.sam
+> 3 210
+# what a dense tensor stores is in the pattern, whatever its value
+--- p.sam
+| tensor b 4 d 1 b.tns
+| tensor c 4 c 1 c.tns
+| result x 4 c 1
+| compute x(i) = b(i) * c(i)
+| loops i
+$ step p.sam
+> 3 35
+> 4 0
+";
 
 #[test]
 fn products_are_written(rt: HostRuntime) -> Result<(), Fail> {
-    let cases = [
-        prints(PRODUCT, VECTORS, "3 35\n"),
-        prints(PRODUCT, &[("b.tns", "1 2\n"), ("c.tns", "3 7\n")], ""),
-        prints(
-            PRODUCT,
-            &[("b.tns", "4 1\n"), ("c.tns", "3 7\n4 1\n")],
-            "4 1\n",
-        ),
-        prints(
-            PRODUCT,
-            &[("b.tns", "# c\n\n3 2\n3 3.0\n"), ("c.tns", "3 7\n4 1\n")],
-            "3 35\n",
-        ),
-        prints(
-            PRODUCT,
-            &[("b.tns", "3 -5\n"), ("c.tns", "3 7\n4 1\n")],
-            "3 -35\n",
-        ),
-        // one tensor twice; no other file is opened
-        prints(
-            "tensor b 4 c 1 b.tns\nresult x 4 c 1\ncompute x(i) = b(i) * b(i)\nloops i\n",
-            &[("b.tns", "1 2\n3 5\n")],
-            "1 4\n3 25\n",
-        ),
-        prints(
-            "tensor b 4 c 1 b.tns\nresult x 4x4 cc 1,2\ncompute x(i,j) = b(i) * b(j)\nloops i j\n",
-            &[("b.tns", "1 2\n3 5\n")],
-            "1 1 4\n1 3 10\n3 1 10\n3 3 25\n",
-        ),
-        // comments, blanks, other names, no newline at the end, and a tensor that the statement doesn't name
-        prints(
-            "# p\n\n tensor d 7 c 1 d.tns\r\ntensor u 04 c 01 b.tns\ntensor v 4 c 1 c.tns\nresult w 4 c 1\ncompute w(k)=v(k)*u(k)\nloops k",
-            &[
-                ("b.tns", "1 2\n3 5\n"),
-                ("c.tns", "3 7\n4 1\n"),
-                ("d.tns", "7 1\n"),
-            ],
-            "3 35\n",
-        ),
-        // a sign and literals
-        prints(
-            "tensor b 4 c 1 b.tns\ntensor c 4 c 1 c.tns\nresult x 4 c 1\ncompute x(i) = -b(i) * c(i)\nloops i\n",
-            VECTORS,
-            "3 -35\n",
-        ),
-        prints(
-            "tensor b 4 c 1 b.tns\ntensor c 4 c 1 c.tns\nresult x 4 c 1\ncompute x(i) = 2 * b(i) * c(i) * 3\nloops i\n",
-            VECTORS,
-            "3 210\n",
-        ),
-        // what a dense tensor stores is in the pattern, whatever its value
-        prints(
-            "tensor b 4 d 1 b.tns\ntensor c 4 c 1 c.tns\nresult x 4 c 1\ncompute x(i) = b(i) * c(i)\nloops i\n",
-            VECTORS,
-            "3 35\n4 0\n",
-        ),
-    ];
-    for (n, case) in cases.iter().enumerate() {
-        assert!(rt; holds(rt.alloc(), case)?, "case {n}");
-    }
+    let told = replayed(rt.alloc(), PRODUCTS)?;
+    assert!(rt; told.as_str() == PRODUCTS, "{told}");
     Ok(())
 }
+
+const COPIES: &str = r"--- p.sam
+| tensor b 4 c 1 b.tns
+| result x 4 c 1
+| compute x(i) = b(i)
+| loops i
+--- b.tns
+| # c
+|
+| 1 2
+| 1 3.0
+$ step p.sam
+> 1 5
+--- b.tns
+| 4 1
+$ step p.sam
+> 4 1
+# no newline at the end
+--- b.tns
+| 1 2
+|~
+$ step p.sam
+> 1 2
+# values are modulo 2^64
+--- b.tns
+| 1 18446744073709551615
+$ step p.sam
+> 1 -1
+# dense levels
+--- p.sam
+| tensor b 3 d 1 b.tns
+| result x 3 c 1
+| compute x(i) = b(i)
+| loops i
+--- b.tns
+$ step p.sam
+> 1 0
+> 2 0
+> 3 0
+--- p.sam
+| tensor B 2x2 cd 1,2 B.tns
+| result X 2x2 cc 1,2
+| compute X(i,j) = B(i,j)
+| loops i j
+--- B.tns
+| 2 1 4
+$ step p.sam
+> 2 1 4
+> 2 2 0
+";
 
 #[test]
 fn copies_are_written(rt: HostRuntime) -> Result<(), Fail> {
-    let cases = [
-        prints(COPY, &[("b.tns", "# c\n\n1 2\n1 3.0\n")], "1 5\n"),
-        prints(COPY, &[("b.tns", "4 1\n")], "4 1\n"),
-        // no newline at the end
-        prints(COPY, &[("b.tns", "1 2")], "1 2\n"),
-        // values are modulo 2^64
-        prints(COPY, &[("b.tns", "1 18446744073709551615\n")], "1 -1\n"),
-        prints(
-            "tensor b 3 d 1 b.tns\nresult x 3 c 1\ncompute x(i) = b(i)\nloops i\n",
-            &[("b.tns", "")],
-            "1 0\n2 0\n3 0\n",
-        ),
-        prints(
-            "tensor B 2x2 cd 1,2 B.tns\nresult X 2x2 cc 1,2\ncompute X(i,j) = B(i,j)\nloops i j\n",
-            &[("B.tns", "2 1 4\n")],
-            "2 1 4\n2 2 0\n",
-        ),
-    ];
-    for (n, case) in cases.iter().enumerate() {
-        assert!(rt; holds(rt.alloc(), case)?, "case {n}");
-    }
+    let told = replayed(rt.alloc(), COPIES)?;
+    assert!(rt; told.as_str() == COPIES, "{told}");
     Ok(())
 }
 
-/// The two matrices of a product, by rows.
-const MATRICES: Texts = &[
-    ("B.tns", "1 1 2\n1 2 3\n2 2 4\n"),
-    ("C.tns", "1 1 5\n2 1 6\n2 2 7\n"),
-];
-
-const fn by_matrices(program: &'static str) -> Case {
-    prints(program, MATRICES, "1 1 28\n1 2 21\n2 1 24\n2 2 28\n")
-}
+const SUMS: &str = r"# all variables are summed over
+--- p.sam
+| tensor b 4 c 1 b.tns
+| tensor c 4 c 1 c.tns
+| result x
+| compute x = b(i) * c(i)
+| loops i
+--- b.tns
+| 1 2
+| 3 5
+--- c.tns
+| 3 7
+| 4 1
+$ step p.sam
+> 35
+# nothing is summed, so nothing is stored
+--- b.tns
+| 1 2
+--- c.tns
+| 3 7
+$ step p.sam
+--- p.sam
+| tensor B 3x3 dc 1,2 B.tns
+| tensor c 3 c 1 c.tns
+| result x 3 c 1
+| compute x(i) = B(i,j) * c(j)
+| loops i j
+--- B.tns
+| 1 1 2
+| 1 3 4
+| 3 2 5
+--- c.tns
+| 1 3
+| 2 1
+$ step p.sam
+> 1 6
+> 3 5
+# the sum is over the innermost loop, over the middle one, and over the outermost
+--- p.sam
+| tensor B 2x2 cc 1,2 B.tns
+| tensor C 2x2 cc 2,1 C.tns
+| result X 2x2 cc 1,2
+| compute X(i,j) = B(i,k) * C(k,j)
+| loops i j k
+--- B.tns
+| 1 1 2
+| 1 2 3
+| 2 2 4
+--- C.tns
+| 1 1 5
+| 2 1 6
+| 2 2 7
+$ step p.sam
+> 1 1 28
+> 1 2 21
+> 2 1 24
+> 2 2 28
+--- p.sam
+| tensor B 2x2 cc 1,2 B.tns
+| tensor C 2x2 cc 1,2 C.tns
+| result X 2x2 cc 1,2
+| compute X(i,j) = B(i,k) * C(k,j)
+| loops i k j
+$ step p.sam
+> 1 1 28
+> 1 2 21
+> 2 1 24
+> 2 2 28
+--- p.sam
+| tensor B 2x2 cc 2,1 B.tns
+| tensor C 2x2 cc 1,2 C.tns
+| result X 2x2 cc 1,2
+| compute X(i,j) = B(i,k) * C(k,j)
+| loops k i j
+$ step p.sam
+> 1 1 28
+> 1 2 21
+> 2 1 24
+> 2 2 28
+# three factors
+--- p.sam
+| tensor B 2x2x2 ccc 1,2,3 B.tns
+| tensor C 2x2 dc 1,2 C.tns
+| tensor D 2x2 dc 1,2 D.tns
+| result X 2x2 cc 1,2
+| compute X(i,j) = B(i,k,l) * C(k,j) * D(l,j)
+| loops i k l j
+--- B.tns
+| 1 1 1 1.0
+| 1 2 2 2.0
+| 2 1 2 3.0
+--- C.tns
+| 1 1 1.0
+| 1 2 2.0
+| 2 1 3.0
+| 2 2 4.0
+--- D.tns
+| 1 1 5.0
+| 1 2 6.0
+| 2 1 7.0
+| 2 2 8.0
+$ step p.sam
+> 1 1 47
+> 1 2 76
+> 2 1 21
+> 2 2 48
+";
 
 #[test]
 fn sums_are_written(rt: HostRuntime) -> Result<(), Fail> {
-    let cases = [
-        prints(
-            "tensor b 4 c 1 b.tns\ntensor c 4 c 1 c.tns\nresult x\ncompute x = b(i) * c(i)\nloops i\n",
-            VECTORS,
-            "35\n",
-        ),
-        // nothing is summed, so nothing is stored
-        prints(
-            "tensor b 4 c 1 b.tns\ntensor c 4 c 1 c.tns\nresult x\ncompute x = b(i) * c(i)\nloops i\n",
-            &[("b.tns", "1 2\n"), ("c.tns", "3 7\n")],
-            "",
-        ),
-        prints(
-            "tensor B 3x3 dc 1,2 B.tns\ntensor c 3 c 1 c.tns\nresult x 3 c 1\ncompute x(i) = B(i,j) * c(j)\nloops i j\n",
-            &[("B.tns", "1 1 2\n1 3 4\n3 2 5\n"), ("c.tns", "1 3\n2 1\n")],
-            "1 6\n3 5\n",
-        ),
-        // the sum is over the innermost loop, over the middle one, and over the outermost
-        by_matrices(
-            "tensor B 2x2 cc 1,2 B.tns\ntensor C 2x2 cc 2,1 C.tns\nresult X 2x2 cc 1,2\ncompute X(i,j) = B(i,k) * C(k,j)\nloops i j k\n",
-        ),
-        by_matrices(
-            "tensor B 2x2 cc 1,2 B.tns\ntensor C 2x2 cc 1,2 C.tns\nresult X 2x2 cc 1,2\ncompute X(i,j) = B(i,k) * C(k,j)\nloops i k j\n",
-        ),
-        by_matrices(
-            "tensor B 2x2 cc 2,1 B.tns\ntensor C 2x2 cc 1,2 C.tns\nresult X 2x2 cc 1,2\ncompute X(i,j) = B(i,k) * C(k,j)\nloops k i j\n",
-        ),
-        prints(
-            "tensor B 2x2x2 ccc 1,2,3 B.tns\ntensor C 2x2 dc 1,2 C.tns\ntensor D 2x2 dc 1,2 D.tns\nresult X 2x2 cc 1,2\ncompute X(i,j) = B(i,k,l) * C(k,j) * D(l,j)\nloops i k l j\n",
-            &[
-                ("B.tns", "1 1 1 1.0\n1 2 2 2.0\n2 1 2 3.0\n"),
-                ("C.tns", "1 1 1.0\n1 2 2.0\n2 1 3.0\n2 2 4.0\n"),
-                ("D.tns", "1 1 5.0\n1 2 6.0\n2 1 7.0\n2 2 8.0\n"),
-            ],
-            "1 1 47\n1 2 76\n2 1 21\n2 2 48\n",
-        ),
-    ];
-    for (n, case) in cases.iter().enumerate() {
-        assert!(rt; holds(rt.alloc(), case)?, "case {n}");
-    }
+    let told = replayed(rt.alloc(), SUMS)?;
+    assert!(rt; told.as_str() == SUMS, "{told}");
     Ok(())
 }
 
-/// A sum of sixteen terms, each the product of eight factors.
-const SIXTEEN_TERMS: &str = "tensor b 4 c 1 b.tns\nresult x 4 c 1\ncompute x(i) = \
-    b(i) * b(i) * b(i) * b(i) * b(i) * b(i) * b(i) * b(i) + \
-    b(i) * b(i) * b(i) * b(i) * b(i) * b(i) * b(i) * b(i) + \
-    b(i) * b(i) * b(i) * b(i) * b(i) * b(i) * b(i) * b(i) + \
-    b(i) * b(i) * b(i) * b(i) * b(i) * b(i) * b(i) * b(i) + \
-    b(i) * b(i) * b(i) * b(i) * b(i) * b(i) * b(i) * b(i) + \
-    b(i) * b(i) * b(i) * b(i) * b(i) * b(i) * b(i) * b(i) + \
-    b(i) * b(i) * b(i) * b(i) * b(i) * b(i) * b(i) * b(i) + \
-    b(i) * b(i) * b(i) * b(i) * b(i) * b(i) * b(i) * b(i) + \
-    b(i) * b(i) * b(i) * b(i) * b(i) * b(i) * b(i) * b(i) + \
-    b(i) * b(i) * b(i) * b(i) * b(i) * b(i) * b(i) * b(i) + \
-    b(i) * b(i) * b(i) * b(i) * b(i) * b(i) * b(i) * b(i) + \
-    b(i) * b(i) * b(i) * b(i) * b(i) * b(i) * b(i) * b(i) + \
-    b(i) * b(i) * b(i) * b(i) * b(i) * b(i) * b(i) * b(i) + \
-    b(i) * b(i) * b(i) * b(i) * b(i) * b(i) * b(i) * b(i) + \
-    b(i) * b(i) * b(i) * b(i) * b(i) * b(i) * b(i) * b(i) + \
-    b(i) * b(i) * b(i) * b(i) * b(i) * b(i) * b(i) * b(i)\nloops i\n";
+const TERMS: &str = r"# a sum that cancels is stored
+--- p.sam
+| tensor b 4 c 1 b.tns
+| tensor c 4 c 1 c.tns
+| result x 4 c 1
+| compute x(i) = b(i) - c(i)
+| loops i
+--- b.tns
+| 1 5
+--- c.tns
+| 1 5
+$ step p.sam
+> 1 0
+# values are modulo 2^64
+--- p.sam
+| tensor b 4 c 1 b.tns
+| tensor c 4 c 1 c.tns
+| result x 4 c 1
+| compute x(i) = b(i) + c(i)
+| loops i
+--- b.tns
+| 1 9223372036854775807
+--- c.tns
+| 1 1
+$ step p.sam
+> 1 -9223372036854775808
+--- p.sam
+| tensor b 3 c 1 b.tns
+| tensor C 3x3 cc 1,2 C.tns
+| tensor d 3 c 1 d.tns
+| result x 3 c 1
+| compute x(i) = b(i) - C(i,j) * d(j)
+| loops i j
+--- b.tns
+| 2 1
+| 3 4
+--- C.tns
+| 1 1 2
+| 2 2 3
+--- d.tns
+| 2 5
+$ step p.sam
+> 2 -14
+> 3 4
+--- p.sam
+| tensor b 4 c 1 b.tns
+| tensor c 4 c 1 c.tns
+| result x 4 c 1
+| compute x(i) = -2 * b(i) + c(i) * 3
+| loops i
+--- b.tns
+| 1 4
+--- c.tns
+| 2 5
+$ step p.sam
+> 1 -8
+> 2 15
+# dense rows without entries on either side
+--- p.sam
+| tensor B 3x2 dc 1,2 B.tns
+| tensor C 3x2 dc 1,2 C.tns
+| result X 3x2 cc 1,2
+| compute X(i,j) = B(i,j) + C(i,j)
+| loops i j
+--- B.tns
+| 3 1 4
+--- C.tns
+| 1 2 7
+$ step p.sam
+> 1 2 7
+> 3 1 4
+# three terms, of which the last is taken away, and one file for all
+--- p.sam
+| tensor B 2x2 cc 1,2 B.tns
+| result X 2x2 cc 1,2
+| compute X(i,j) = B(i,j) + B(i,j) - B(i,j)
+| loops i j
+--- B.tns
+| 1 2 3
+| 2 1 4
+$ step p.sam
+> 1 2 3
+> 2 1 4
+# numbers
+--- p.sam
+| tensor b 4 c 1 b.tns
+| tensor c 4 c 1 c.tns
+| result x
+| compute x = b(i) - c(j)
+| loops i j
+--- b.tns
+| 1 2
+| 3 5
+--- c.tns
+| 3 7
+| 4 1
+$ step p.sam
+> -1
+--- p.sam
+| tensor b 4 c 1 b.tns
+| result x
+| compute x = b(i) + b(i) + b(i)
+| loops i
+--- b.tns
+$ step p.sam
+# sixteen terms of eight factors
+--- p.sam
+| tensor b 4 c 1 b.tns
+| result x 4 c 1
+| compute x(i) = b(i) * b(i) * b(i) * b(i) * b(i) * b(i) * b(i) * b(i) + b(i) * b(i) * b(i) * b(i) * b(i) * b(i) * b(i) * b(i) + b(i) * b(i) * b(i) * b(i) * b(i) * b(i) * b(i) * b(i) + b(i) * b(i) * b(i) * b(i) * b(i) * b(i) * b(i) * b(i) + b(i) * b(i) * b(i) * b(i) * b(i) * b(i) * b(i) * b(i) + b(i) * b(i) * b(i) * b(i) * b(i) * b(i) * b(i) * b(i) + b(i) * b(i) * b(i) * b(i) * b(i) * b(i) * b(i) * b(i) + b(i) * b(i) * b(i) * b(i) * b(i) * b(i) * b(i) * b(i) + b(i) * b(i) * b(i) * b(i) * b(i) * b(i) * b(i) * b(i) + b(i) * b(i) * b(i) * b(i) * b(i) * b(i) * b(i) * b(i) + b(i) * b(i) * b(i) * b(i) * b(i) * b(i) * b(i) * b(i) + b(i) * b(i) * b(i) * b(i) * b(i) * b(i) * b(i) * b(i) + b(i) * b(i) * b(i) * b(i) * b(i) * b(i) * b(i) * b(i) + b(i) * b(i) * b(i) * b(i) * b(i) * b(i) * b(i) * b(i) + b(i) * b(i) * b(i) * b(i) * b(i) * b(i) * b(i) * b(i) + b(i) * b(i) * b(i) * b(i) * b(i) * b(i) * b(i) * b(i)
+| loops i
+--- b.tns
+| 2 1
+$ step p.sam
+> 2 16
+";
 
 #[test]
 fn terms_are_joined(rt: HostRuntime) -> Result<(), Fail> {
-    let cases = [
-        // a sum that cancels is stored
-        prints(
-            "tensor b 4 c 1 b.tns\ntensor c 4 c 1 c.tns\nresult x 4 c 1\ncompute x(i) = b(i) - c(i)\nloops i\n",
-            &[("b.tns", "1 5\n"), ("c.tns", "1 5\n")],
-            "1 0\n",
-        ),
-        // values are modulo 2^64
-        prints(
-            "tensor b 4 c 1 b.tns\ntensor c 4 c 1 c.tns\nresult x 4 c 1\ncompute x(i) = b(i) + c(i)\nloops i\n",
-            &[("b.tns", "1 9223372036854775807\n"), ("c.tns", "1 1\n")],
-            "1 -9223372036854775808\n",
-        ),
-        prints(
-            "tensor b 3 c 1 b.tns\ntensor C 3x3 cc 1,2 C.tns\ntensor d 3 c 1 d.tns\nresult x 3 c 1\ncompute x(i) = b(i) - C(i,j) * d(j)\nloops i j\n",
-            &[
-                ("b.tns", "2 1\n3 4\n"),
-                ("C.tns", "1 1 2\n2 2 3\n"),
-                ("d.tns", "2 5\n"),
-            ],
-            "2 -14\n3 4\n",
-        ),
-        prints(
-            "tensor b 4 c 1 b.tns\ntensor c 4 c 1 c.tns\nresult x 4 c 1\ncompute x(i) = -2 * b(i) + c(i) * 3\nloops i\n",
-            &[("b.tns", "1 4\n"), ("c.tns", "2 5\n")],
-            "1 -8\n2 15\n",
-        ),
-        // dense rows without entries on either side
-        prints(
-            "tensor B 3x2 dc 1,2 B.tns\ntensor C 3x2 dc 1,2 C.tns\nresult X 3x2 cc 1,2\ncompute X(i,j) = B(i,j) + C(i,j)\nloops i j\n",
-            &[("B.tns", "3 1 4\n"), ("C.tns", "1 2 7\n")],
-            "1 2 7\n3 1 4\n",
-        ),
-        // three terms, of which the last is taken away, and one file for all
-        prints(
-            "tensor B 2x2 cc 1,2 B.tns\nresult X 2x2 cc 1,2\ncompute X(i,j) = B(i,j) + B(i,j) - B(i,j)\nloops i j\n",
-            &[("B.tns", "1 2 3\n2 1 4\n")],
-            "1 2 3\n2 1 4\n",
-        ),
-        // numbers
-        prints(
-            "tensor b 4 c 1 b.tns\ntensor c 4 c 1 c.tns\nresult x\ncompute x = b(i) - c(j)\nloops i j\n",
-            VECTORS,
-            "-1\n",
-        ),
-        prints(
-            "tensor b 4 c 1 b.tns\nresult x\ncompute x = b(i) + b(i) + b(i)\nloops i\n",
-            &[("b.tns", "")],
-            "",
-        ),
-        prints(SIXTEEN_TERMS, &[("b.tns", "2 1\n")], "2 16\n"),
-    ];
-    for (n, case) in cases.iter().enumerate() {
-        assert!(rt; holds(rt.alloc(), case)?, "case {n}");
-    }
+    let told = replayed(rt.alloc(), TERMS)?;
+    assert!(rt; told.as_str() == TERMS, "{told}");
     Ok(())
 }
 
+const WRITES: &str = r"# a write may fail
+--- p.sam
+| tensor b 4 c 1 b.tns
+| tensor c 4 c 1 c.tns
+| result x 4 c 1
+| compute x(i) = b(i) * c(i)
+| loops i
+--- b.tns
+| 1 2
+| 3 5
+--- c.tns
+| 3 7
+| 4 1
+fails output 2
+$ step p.sam
+> 3 35
+>~
+! sam: write fault
+= 7
+fails output 3
+$ check p.sam
+> accepted
+>~
+! sam: write fault
+= 7
+";
+
 #[test]
 fn a_write_may_fail(rt: HostRuntime) -> Result<(), Fail> {
-    let cases = [
-        Case {
-            write_fails: 2,
-            status: 7,
-            err: "sam: write fault\n",
-            ..prints(PRODUCT, VECTORS, "3 35")
-        },
-        Case {
-            words: &["check", "p.sam"],
-            write_fails: 3,
-            status: 7,
-            err: "sam: write fault\n",
-            ..prints(PRODUCT, &[], "accepted")
-        },
-    ];
-    for (n, case) in cases.iter().enumerate() {
-        assert!(rt; holds(rt.alloc(), case)?, "case {n}");
-    }
+    let told = replayed(rt.alloc(), WRITES)?;
+    assert!(rt; told.as_str() == WRITES, "{told}");
     Ok(())
 }
