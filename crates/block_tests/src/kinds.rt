@@ -19,7 +19,7 @@ use std::test::Fail;
 use stream_tokens::Token::{self, Done, Empty, Item, Stop};
 
 /// Whether a block puts these streams of whole inputs.
-pub fn puts<'a>(
+fn puts<'a>(
     alloc: Global,
     mut block: AnyBlock<'a>,
     ins: &[&[Token]],
@@ -174,7 +174,7 @@ fn shapes_are_put(rt: HostRuntime) -> Result<(), Fail> {
 }
 
 /// A writer of this level that has taken this stream.
-pub fn level_of(alloc: Global, level: u8, stream: &[Token]) -> Result<LevelWriter, Fail>
+fn level_of(alloc: Global, level: u8, stream: &[Token]) -> Result<LevelWriter, Fail>
     requires { Fits (WriteLevelKind level) (stream.now ∷ []) }
 {
     let mut writer = LevelWriter::new(alloc, level)?;
@@ -183,7 +183,7 @@ pub fn level_of(alloc: Global, level: u8, stream: &[Token]) -> Result<LevelWrite
 }
 
 /// A writer of the values that has taken this stream.
-pub fn values_of(alloc: Global, stream: &[Token]) -> Result<ValueWriter, Fail>
+fn values_of(alloc: Global, stream: &[Token]) -> Result<ValueWriter, Fail>
     requires { Fits WriteValueKind (stream.now ∷ []) }
 {
     let mut writer = ValueWriter::new(alloc);

@@ -4,10 +4,6 @@
 #[cfg(test)]
 mod bench;
 #[cfg(test)]
-mod graphs;
-#[cfg(test)]
 mod kinds;
-#[cfg(test)]
-mod stored;
 #[cfg(test)]
 mod tokens;
