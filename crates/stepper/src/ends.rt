@@ -107,7 +107,8 @@ impl<'a, T: Tap> Ports for Ends<'a, T> {
         self.moves = one_more(self.moves);
     }
 
-    #[inline]
+    // Every kind of block puts, so a call of its own would be made: what it saves and restores is a third of a put.
+    #[inline(always)]
     fn put(&mut self, port: u32, t: Token) -> Result<bool, AllocError> {
         let channel = self.outs[port as usize];
         let place = channel as usize;
