@@ -1,3 +1,4 @@
 mod Places
 mod ScanRuns
+mod Going
 pub mod InRange

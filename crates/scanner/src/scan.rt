@@ -1,16 +1,19 @@
 //! The level scanner.
 
-ghost use Rattle.std.specs.Prelude.{◌≡◌, ◌<◌, ◌+◌, [], length, get_or, false, IsTrue};
+ghost use Rattle.std.specs.Prelude.{◌≡◌, ◌<◌, ◌+◌, [], length, get_or, false, IsTrue, IfOk, IfErr};
+ghost use Rattle.block_core.specs.Bursts.{MayPour, Poured};
 ghost use Rattle.block_core.specs.Kind.{ScanKind, moves};
 ghost use Rattle.block_core.specs.Stands.{Stands, StandsAtStart};
 ghost use Rattle.block_core.specs.Runs.{Runs};
 ghost use Rattle.block_core.proofs.Unique.{same-wish};
 ghost use Rattle.levels.specs.Reads.{children_at};
 ghost use Rattle.scanner.specs.ScanSteps.{scan_steps, scan_wants, scan_took, scan_put, child_number, child_from, scan_called_for, is_scanned, is_scan_state};
+ghost use Rattle.scanner.specs.declared.scan_state.ScanState.TheVariants.{Child};
+ghost use Rattle.scanner.specs.declared.scan_state.Output.TheVariants.{Coordinates as OnCoordinates, References as OnReferences};
 
 use crate::scan_state::Output::{self, Coordinates, References};
 use crate::scan_state::ScanState;
-use block_core::{BlockStep, Wish};
+use block_core::{BlockStep, Ports, Wish};
 use levels::Storage;
 use std::alloc::AllocError;
 use stream_tokens::Token;
@@ -40,6 +43,38 @@ impl<'a> Scanner<'a> {
             level,
             state: ScanState::Wanting(false),
         }
+    }
+
+    /// A child's coordinate and its reference.
+    #[inline]
+    fn child(&self, r: u64, n: u64) -> (u64, u64)
+        requires parent { r < length (children_at self.now.storage.now self.now.level) }
+        requires child { n < length (get_or (children_at self.now.storage.now self.now.level) r []) }
+        ensures coordinate { result.0 ≡ child_number (children_at self.now.storage.now self.now.level) OnCoordinates r n }
+        ensures reference { result.1 ≡ child_number (children_at self.now.storage.now self.now.level) OnReferences r n }
+    {
+        self.storage.child(self.level, r, n)
+    }
+
+    /// A child's coordinate is put, and then its reference, as far as there is room. The answer says whether one was put.
+    #[inline]
+    fn put_child<P: Ports>(&mut self, ports: &mut P, r: u64, n: u64) -> Result<bool, AllocError>
+        requires at { self.old.state ≡ Child OnCoordinates r n }
+        requires may { MayPour ⟦<Scanner<'a> as BlockStep>⟧.kind ⟦<Scanner<'a> as BlockStep>⟧.stands P.fed self.old ports.old }
+        ensures same_kind { ⟦<Scanner<'a> as BlockStep>⟧.kind self.new ≡ ⟦<Scanner<'a> as BlockStep>⟧.kind self.old }
+        ensures same_ends { P.same ports.old ports.new }
+        ensures poured { IfOk result (λ went. Poured ⟦<Scanner<'a> as BlockStep>⟧.kind ⟦<Scanner<'a> as BlockStep>⟧.stands P.fed P.did self.old ports.old self.new ports.new went) }
+        ensures refused { IfErr result (λ _. Poured ⟦<Scanner<'a> as BlockStep>⟧.kind ⟦<Scanner<'a> as BlockStep>⟧.stands P.fed P.did self.old ports.old self.new ports.new false) }
+    {
+        let (coordinate, reference) = self.child(r, n);
+        if !ports.put(0, Token::Item(coordinate))? {
+            return Ok(false);
+        }
+        self.state = ScanState::Child(References, r, n);
+        if ports.put(1, Token::Item(reference))? {
+            self.state = self.child_after(r, n);
+        }
+        Ok(true)
     }
 
     /// What is put of a child on an output.
@@ -175,6 +210,29 @@ impl<'a> BlockStep for Scanner<'a> {
     #[inline]
     fn did_put(&mut self) {
         self.state = self.put();
+    }
+
+    // A child's two puts are made in one go.
+    fn burst<P: Ports>(&mut self, ports: &mut P, most: u32) -> Result<bool, AllocError> {
+        let mut went = false;
+        let mut left = most;
+        while left > 0 {
+            let moved = match self.state {
+                ScanState::Child(Coordinates, r, n) if left > 1 => {
+                    left -= 2;
+                    self.put_child(ports, r, n)?
+                }
+                _ => {
+                    left -= 1;
+                    self.one_by_one(ports, 1)?
+                }
+            };
+            if !moved {
+                return Ok(went);
+            }
+            went = true;
+        }
+        Ok(went)
     }
 
     ghost stands_fits = { λ b s n h. h.fits };
