@@ -1,0 +1,9 @@
+pub mod Ends
+pub mod Counts
+pub mod MovesMade
+pub mod Running
+pub mod Taking
+pub mod Giving
+pub mod Gathering
+pub mod Whole
+pub mod GraphRuns

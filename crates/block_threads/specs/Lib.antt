@@ -1,0 +1,4 @@
+pub mod Ports
+pub mod Working
+pub mod Tasks
+pub mod Wires
