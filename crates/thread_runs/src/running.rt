@@ -1,0 +1,66 @@
+//! A run of a program's graph with a thread for every block, and what is answered of it.
+
+ghost use Rattle.std.specs.Prelude.{◌≡◌, ◌≤◌, List, true, IfOk};
+ghost use Rattle.sam_base.specs.declared.TheConstants.{CAPACITY_MOST};
+ghost use Rattle.sam_model.specs.declared.tensors.Entries.{Entries};
+ghost use Rattle.sam_model.specs.Accepted.{accepted};
+ghost use Rattle.sam_model.specs.ResultText.{result_text};
+ghost use Rattle.graph.specs.Writers.{written_listing};
+ghost use Rattle.custard_lower.specs.Lowered.{Lowered};
+ghost use Rattle.inputs.specs.Tensors.{AreStored};
+ghost use Rattle.machines.specs.Runnable.{Runnable};
+
+use any_block::{assemble, gather};
+use block_threads::{Gate, run_graph};
+use graph::Graph;
+use levels::Storage;
+use sam_base::Name;
+use sam_model::{Program, Written};
+use std::alloc::{AllocError, Global};
+use std::sync::Wait;
+use std::thread::Threads;
+use tns_io::result_text;
+
+/// Runs a graph over stored tensors, and gathers what its writers keep.
+fn run_writers<G: Gate + Sync, R: Threads + Wait + Sync>(
+    rt: &R,
+    alloc: Global,
+    g: &Graph,
+    storages: &[Storage],
+    levels: u8,
+    capacity: u32,
+    gate: &G,
+) -> Result<Written, AllocError>
+    requires runnable { Runnable storages.now g.now }
+    requires capacity { (1 ≤ capacity) × (capacity ≤ CAPACITY_MOST) }
+    ensures { IfOk result (λ w. w ≡ written_listing storages.now g.now levels) }
+{
+    let blocks = assemble(alloc, g, storages)?;
+    let finished = run_graph(rt, alloc, g, blocks, capacity, gate)?;
+    gather(alloc, g, finished.as_slice(), levels)
+}
+
+/// The text of the tensor that a program denotes, from its graph and its tensors as they are stored. The graph runs with a
+/// thread for every block, on wires that hold at most `capacity` messages, from 1 to `CAPACITY_MOST`.
+///
+/// The one refusal is want of memory. No proof says that the run ends: where the capacity is too small, it may wait for ever.
+pub fn run_threads<G: Gate + Sync, R: Threads + Wait + Sync>(
+    rt: &R,
+    alloc: Global,
+    p: &Program,
+    g: &Graph,
+    storages: &[Storage],
+    capacity: u32,
+    gate: &G,
+) -> Result<Name, AllocError>
+    requires accepted { accepted p.now ≡ true }
+    requires lowered { Lowered p.now g.now }
+    requires stored { (entries : List Entries) × AreStored p.now.tensors entries storages.now }
+    requires capacity { (1 ≤ capacity) × (capacity ≤ CAPACITY_MOST) }
+    ensures { (entries : List Entries) → AreStored p.now.tensors entries storages.now →
+        IfOk result (λ text. text ≡ result_text p.now entries) }
+{
+    let levels = p.result.order.len() as u8;
+    let written = run_writers(rt, alloc, g, storages, levels, capacity, gate)?;
+    result_text(alloc, &p.result, &written)
+}
