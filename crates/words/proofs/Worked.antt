@@ -5,7 +5,7 @@ use Rattle.clap.proofs.OnLiterals.{clap_on_literals}
 use Rattle.words.specs.Asked.{asked_of}
 use Rattle.words.specs.declared.asking.Options.{Options}
 use Rattle.words.specs.declared.asking.Command.{Command}
-use Rattle.words.specs.declared.asking.Command.TheVariants.{Check, Lower, Streams, Step, Moment, Large}
+use Rattle.words.specs.declared.asking.Command.TheVariants.{Check, Lower, Streams, Step, Moment, Run, Large}
 
 abbrev step_p : List (List ℕ) → List (List ℕ)
 step_p more = codes "step" ∷ codes "p.sam" ∷ more
@@ -18,6 +18,9 @@ asks_step options = Some (Step (codes "p.sam") options)
 
 abbrev large_of : List ℕ → Option Command
 large_of number = asked_of (codes "large" ∷ number ∷ [])
+
+abbrev run_p : List (List ℕ) → Option Command
+run_p more = asked_of (codes "run" ∷ codes "p.sam" ∷ more)
 
 -- ---- commands and their subjects
 
@@ -57,9 +60,9 @@ unknown_command : asked_of (codes "walk" ∷ codes "p.sam" ∷ []) ≡ None
 unfolding clap_on_literals
 unknown_command = refl
 
-not_served : asked_of (codes "run" ∷ codes "p.sam" ∷ []) ≡ None
+runs : run_p [] ≡ Some (Run (codes "p.sam") None)
 unfolding clap_on_literals
-not_served = refl
+runs = refl
 
 help_is_none : asked_of (step_p (codes "--help" ∷ [])) ≡ None
 unfolding clap_on_literals
@@ -116,6 +119,22 @@ twice = refl
 check_has_no_option : asked_of (codes "check" ∷ codes "p.sam" ∷ codes "--capacity" ∷ codes "4" ∷ []) ≡ None
 unfolding clap_on_literals
 check_has_no_option = refl
+
+run_in_room : run_p (codes "--capacity=4" ∷ []) ≡ Some (Run (codes "p.sam") (Some 4))
+unfolding clap_on_literals
+run_in_room = refl
+
+run_has_no_pairs : run_p (codes "--of=7=1" ∷ []) ≡ None
+unfolding clap_on_literals
+run_has_no_pairs = refl
+
+run_has_no_schedule : run_p (codes "--capacity=4" ∷ codes "--schedule=s" ∷ []) ≡ None
+unfolding clap_on_literals
+run_has_no_schedule = refl
+
+run_capacity_0 : run_p (codes "--capacity=0" ∷ []) ≡ None
+unfolding clap_on_literals
+run_capacity_0 = refl
 
 -- ---- bounds
 

@@ -8,7 +8,7 @@ use Rattle.words.specs.declared.TheConstants.{CHANNEL_MOST}
 use Rattle.words.specs.Line.{Given, given_of}
 use Rattle.words.specs.declared.asking.Options.{Options}
 use Rattle.words.specs.declared.asking.Command.{Command}
-use Rattle.words.specs.declared.asking.Command.TheVariants.{Check, Lower, Streams, Step, Moment, Large}
+use Rattle.words.specs.declared.asking.Command.TheVariants.{Check, Lower, Streams, Step, Moment, Run, Large}
 use Rattle.words.specs.declared.asking.Refusal.{Refusal}
 use Rattle.words.specs.declared.asking.Refusal.TheVariants.{Usage, OutOfMemory}
 
@@ -61,10 +61,13 @@ options_with schedule None own = None
 options_with schedule (Some capacity) None = None
 options_with schedule (Some capacity) (Some own) = Some (record { capacity = capacity; own = own; schedule = schedule })
 
+-- the capacity of all channels, if one is given
+abbrev pub all_capacity : Given → Option (Option ℕ)
+all_capacity g = given_or None (λ text. option_map Some (capacity_of text)) g.capacity
+
 -- what the options say of a run
 abbrev pub options_of : Given → Option Options
-options_of g =
-    options_with g.schedule (given_or None (λ text. option_map Some (capacity_of text)) g.capacity) (given_or [] pairs_of g.of)
+options_of g = options_with g.schedule (all_capacity g) (given_or [] pairs_of g.of)
 
 abbrev pub has_options : Given → Bool
 has_options g = is_some g.capacity || (is_some g.of || is_some g.schedule)
@@ -72,6 +75,10 @@ has_options g = is_some g.capacity || (is_some g.of || is_some g.schedule)
 -- this, for a command that has no options
 abbrev pub without_options : {A : Type 0} → Given → Option A → Option A
 without_options g asked = if has_options g then None else asked
+
+-- what `--capacity` says, where it is the only option
+abbrev pub capacity_alone : Given → Option (Option ℕ)
+capacity_alone g = if is_some g.of || is_some g.schedule then None else all_capacity g
 
 -- ---- commands
 
@@ -83,6 +90,7 @@ command_of g =
     else if bytes_eq g.command (codes "streams") then without_options g (Some (Streams g.subject))
     else if bytes_eq g.command (codes "step") then option_map (Step g.subject) (options_of g)
     else if bytes_eq g.command (codes "moment") then option_map (Moment g.subject) (options_of g)
+    else if bytes_eq g.command (codes "run") then option_map (Run g.subject) (capacity_alone g)
     else if bytes_eq g.command (codes "large") then without_options g (option_map Large (bounded_number 1 LARGE_MOST g.subject))
     else None
 
@@ -103,6 +111,7 @@ pub record HasCapacities (options : Options) : Type 0 where
 abbrev pub IsInBounds : Command → Type 0
 IsInBounds (Step program options) = HasCapacities options
 IsInBounds (Moment program options) = HasCapacities options
+IsInBounds (Run program capacity) = IfSome capacity IsCapacityGiven
 IsInBounds (Large number) = (1 ≤ number) × (number ≤ LARGE_MOST)
 IsInBounds _ = Unit {0}
 

@@ -4,7 +4,8 @@ ghost use Rattle.std.specs.Prelude.{◌≡◌, ◌≤◌, [], map, string_bytes,
 ghost use Rattle.clap.specs.Words.{rows_of, found_of};
 ghost use Rattle.words.specs.Line.{given_in};
 ghost use Rattle.words.specs.Asked.{Answers, asked_of, command_of, options_of, has_options, without_options, given_or};
-ghost use Rattle.words.specs.Asked.{bounded_number, capacity_of, pairs_of, IsCapacityGiven, HasCapacities, IsInBounds};
+ghost use Rattle.words.specs.Asked.{bounded_number, capacity_of, capacity_alone, pairs_of};
+ghost use Rattle.words.specs.Asked.{IsCapacityGiven, HasCapacities, IsInBounds};
 ghost use Rattle.words.specs.Shown.{given_by, text_in};
 
 use crate::line::{read, text};
@@ -24,17 +25,37 @@ pub enum Refusal {
 #[derive(Drop)]
 pub enum Command {
     /// Whether the program is accepted.
-    Check { program: Name },
+    Check {
+        program: Name,
+    },
     /// The graph that the program is lowered to.
-    Lower { program: Name },
+    Lower {
+        program: Name,
+    },
     /// The whole stream of each channel.
-    Streams { program: Name },
+    Streams {
+        program: Name,
+    },
     /// The tensor that the program denotes, as the machine computes it.
-    Step { program: Name, options: Options },
+    Step {
+        program: Name,
+        options: Options,
+    },
     /// What has passed over each channel when the schedule ends.
-    Moment { program: Name, options: Options },
+    Moment {
+        program: Name,
+        options: Options,
+    },
+    /// The tensor that the program denotes, computed with a thread for every block. The capacity is that of every channel, from
+    /// 1 to `CAPACITY_MOST`, if one is given.
+    Run {
+        program: Name,
+        capacity: Option<u32>,
+    },
     /// The generated workload of this number, from 1 to `LARGE_MOST`.
-    Large { number: u32 },
+    Large {
+        number: u32,
+    },
 }
 
 /// What the options say of a run.
@@ -140,6 +161,18 @@ fn read_options(alloc: Global, words: Words) -> Result<Options, Refusal>
     })
 }
 
+/// The capacity of a command that has no other option.
+fn capacity_alone(words: Words) -> Result<Option<u32>, Refusal>
+    ensures read { Answers (capacity_alone (given_by words.entry)) result }
+    ensures bounded { IfOk result (λ capacity. IfSome capacity IsCapacityGiven) }
+{
+    if words.of.is_some() || words.schedule.is_some() {
+        Err(Refusal::Usage)
+    } else {
+        capacity(words.capacity)
+    }
+}
+
 /// The program of a command that has no options.
 fn program_alone(alloc: Global, words: Words) -> Result<Name, Refusal>
     ensures { let given = given_by words.entry in Answers (without_options given (Some given.subject)) result }
@@ -186,6 +219,10 @@ fn read_command(alloc: Global, words: Words) -> Result<Command, Refusal>
         "moment" => Ok(Command::Moment {
             program: name(alloc, words.subject)?,
             options: read_options(alloc, words)?,
+        }),
+        "run" => Ok(Command::Run {
+            program: name(alloc, words.subject)?,
+            capacity: capacity_alone(words)?,
         }),
         "large" => Ok(Command::Large {
             number: number_alone(words)?,
