@@ -1,7 +1,8 @@
 //! The program: it makes the real files and streams, and hands the system's words to the one call that does the work.
 #![tactic(auto)]
 
-use sam_cmd::sam_serial;
+use block_threads::OpenGate;
+use sam_cmd::sam;
 use sam_io::{SysFiles, SysSink};
 use std::env;
 use std::io::ErrorKind;
@@ -27,5 +28,14 @@ fn main(rt: HostRuntime) -> ExitCode {
     let mut files = SysFiles::new(rt);
     let mut out = SysSink::output(rt.stdout());
     let mut err = SysSink::error(rt.stderr());
-    ExitCode::from(sam_serial(rt.alloc(), &words, &mut files, &mut out, &mut err))
+    let status = sam(
+        &rt,
+        rt.alloc(),
+        &words,
+        &mut files,
+        &mut out,
+        &mut err,
+        &OpenGate,
+    );
+    ExitCode::from(status)
 }

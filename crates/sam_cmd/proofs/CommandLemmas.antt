@@ -1,8 +1,11 @@
 -- Of each command at most one answer is due.
 use Rattle.std.proofs.Common.{ℕ, List}
-use Rattle.std.specs.Prelude.{codes, Ok}
+use Rattle.std.specs.Prelude.{codes, Ok, Err}
+use Rattle.sam_base.specs.declared.faults.Fault.TheVariants.{Usage}
 use Rattle.sam_model.specs.declared.tensors.Entries.{Entries}
 use Rattle.sam_model.specs.declared.program.Program.{Program}
+use Rattle.sam_model.specs.ResultText.{result_text}
+use Rattle.graph.specs.declared.graphs.Graph.{Graph}
 use Rattle.custard_lower.specs.Lowered.{low}
 use Rattle.graph_json.specs.Spelled.{graph_text}
 use Rattle.traces.specs.Traces.{streams_of, moment_of}
@@ -14,15 +17,17 @@ use Rattle.inputs.specs.Programs.{program_part}
 use Rattle.inputs.specs.Tensors.{tensor_part}
 use Rattle.inputs.proofs.OneInput.{one_program}
 use Rattle.words.specs.declared.asking.Command.{Command}
-use Rattle.words.specs.declared.asking.Command.TheVariants.{Check, Lower, Streams, Step, Moment, Large}
+use Rattle.words.specs.declared.asking.Command.TheVariants.{Check, Lower, Streams, Step, Moment, Run, Large}
 use Rattle.words.specs.declared.asking.Options.{Options}
 use Rattle.words.specs.Asked.{asked_of}
 use Rattle.runs.specs.declared.setup.Setup.{Setup}
 use Rattle.runs.specs.Setups.{setup_part}
 use Rattle.runs.proofs.OneRun.{one_setup, one_run}
+use Rattle.thread_runs.specs.ThreadsFor.{threads_for}
 use Rattle.sam_cmd.specs.declared.running.Wanted.{Wanted}
 use Rattle.sam_cmd.specs.declared.running.Wanted.TheVariants as wanted
-use Rattle.sam_cmd.specs.Commands.{asked_or_usage, check_part, lower_part, streams_part, wanted_part, running_part, text_part, answer_part}
+use Rattle.sam_cmd.specs.Commands.{asked_or_usage, check_part, lower_part, streams_part, wanted_part, running_part, threads_part}
+use Rattle.sam_cmd.specs.Commands.{text_part, answer_part, serial_text_part, serial_part}
 use Rattle.sam_cmd.proofs.TensorLemmas.{one_over}
 
 one_check : (program : List ℕ) → AtMostOne (check_part program)
@@ -63,14 +68,36 @@ one_wanted wanted.Moment p setup entries = one_gives (Ok (moment_of p entries se
 one_running : (wanted : Wanted) (program : List ℕ) (options : Options) → AtMostOne (running_part wanted program options)
 one_running wanted program options = one_setting options (wanted_part wanted) (one_wanted wanted) program
 
+module _ (program : List ℕ) where
+  abbrev tensor_text : Program → List Entries → Part (List ℕ)
+  tensor_text p entries = gives (Ok (result_text p entries))
+
+  abbrev over : Program → Graph → Part (List ℕ)
+  over p g = followed (each_part tensor_part p.tensors) (tensor_text p)
+
+  one_threads : AtMostOne (threads_part program)
+  one_threads =
+      one_followed (program_part program) (λ p. followed (gives (threads_for (low p))) (over p)) (one_program program) (λ p.
+      one_followed (gives (threads_for (low p))) (over p) (one_gives (threads_for (low p))) (λ g.
+      one_over p.tensors (tensor_text p) (λ entries. one_gives (Ok (result_text p entries)))))
+
 one_text : (command : Command) → AtMostOne (text_part command)
 one_text (Check program) = one_check program
 one_text (Lower program) = one_lower program
 one_text (Streams program) = one_streams program
 one_text (Step program options) = one_running wanted.Result program options
 one_text (Moment program options) = one_running wanted.Moment program options
+one_text (Run program capacity) = one_threads program
 one_text (Large number) = one_gives (Ok (large_text number))
 
 pub one_answer : (words : List (List ℕ)) → AtMostOne (answer_part words)
 one_answer words =
     let asked = asked_or_usage (asked_of words) in one_followed (gives asked) text_part (one_gives asked) one_text
+
+one_serial_text : (command : Command) → AtMostOne (serial_text_part command)
+one_serial_text (Run program capacity) = one_gives (Err Usage)
+one_serial_text command = one_text command
+
+pub one_serial : (words : List (List ℕ)) → AtMostOne (serial_part words)
+one_serial words =
+    let asked = asked_or_usage (asked_of words) in one_followed (gives asked) serial_text_part (one_gives asked) one_serial_text

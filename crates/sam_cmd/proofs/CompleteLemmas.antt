@@ -1,7 +1,9 @@
 -- Where all that a command reads is accepted, it has its text.
-use Rattle.std.proofs.Common.{◌≡◌, ◌∙◌, ℕ, suc, true, List, [], ◌∷◌, length, ap, sym, subst}
-use Rattle.std.specs.Prelude.{Option, Result, Ok}
+use Rattle.std.proofs.Common.{◌≡◌, ◌∙◌, ◌≤◌, ℕ, suc, true, false, Bool, refl, arith, List, [], ◌∷◌, length, ap, sym, subst}
+use Rattle.std.proofs.lemmas.Bool.Decides.{nat_tests}
+use Rattle.std.specs.Prelude.{Option, Result, Ok, Err, nat_lt, if◌then◌else◌}
 use Rattle.sam_base.specs.declared.faults.Fault.{Fault}
+use Rattle.sam_base.specs.declared.faults.Fault.TheVariants.{TooManyBlocks}
 use Rattle.sam_io.specs.Outside.{Told}
 use Rattle.sam_model.specs.declared.program.Program.{Program}
 use Rattle.sam_model.specs.Accepted.{accepted}
@@ -11,7 +13,11 @@ use Rattle.inputs.specs.Programs.{program_part}
 use Rattle.inputs.specs.Tensors.{tensor_part}
 use Rattle.runs.specs.Runs.{RunsTo}
 use Rattle.runs.proofs.RunLaws.{runs-to-some-answer, ample-room-finishes}
-use Rattle.sam_cmd.specs.Laws.{StepCompletes}
+use Rattle.graph.specs.declared.graphs.Graph.{Graph}
+use Rattle.custard_lower.specs.Lowered.{low}
+use Rattle.thread_runs.specs.declared.TheConstants.{THREADS_MOST}
+use Rattle.thread_runs.specs.ThreadsFor.{threads_for}
+use Rattle.sam_cmd.specs.Laws.{StepCompletes, RunCompletes}
 
 -- a list of parts gives as many
 each_length : {A B : Type 0} (f : A → Part B) (told : Option Told) (xs : List A) (ys : List B) → each_part f xs told (Ok ys) →
@@ -32,3 +38,13 @@ step-completes told program options p setup entries read set stored ample =
     (each_length tensor_part told p.tensors entries stored) in
     let text = ample-room-finishes p entries caps some.0 ample some.1 in
     (p, read, (setup, set, (entries, stored, subst (λ (a : Result (List ℕ) Fault). RunsTo p entries caps a) text some.1)))
+
+not_past : (n : ℕ) → n ≤ THREADS_MOST → nat_lt THREADS_MOST n ≡ false
+not_past n few = grind (arith, nat_tests)
+
+few_threads : (g : Graph) → length g.blocks ≤ THREADS_MOST → Ok g ≡ threads_for g
+few_threads g few =
+    sym (ap (λ (past : Bool). if past then Err (TooManyBlocks (length g.blocks)) else Ok g) (not_past (length g.blocks) few))
+
+pub run-completes : RunCompletes
+run-completes told program p entries read few stored = (p, read, (low p, few_threads (low p) few, (entries, stored, refl)))

@@ -1,5 +1,6 @@
 pub mod CommandLemmas
 pub mod CompleteLemmas
 pub mod ReportLemmas
+pub mod SerialLemmas
 pub mod TensorLemmas
 mod Worked

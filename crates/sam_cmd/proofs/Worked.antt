@@ -1,12 +1,19 @@
--- What is asked, by hand.
+-- What is asked, and which commands take no threads, by hand.
 use Rattle.std.proofs.Common.{◌≡◌, refl, codes}
-use Rattle.std.specs.Prelude.{Ok, Err, Some, None}
+use Rattle.std.specs.Prelude.{ℕ, List, Ok, Err, Some, None}
 use Rattle.sam_base.specs.declared.faults.Fault.TheVariants.{Usage}
-use Rattle.words.specs.declared.asking.Command.TheVariants.{Check}
-use Rattle.sam_cmd.specs.Commands.{asked_or_usage}
+use Rattle.words.specs.declared.asking.Command.TheVariants.{Check, Run}
+use Rattle.parts.specs.Parts.{Part, gives}
+use Rattle.sam_cmd.specs.Commands.{asked_or_usage, check_part, serial_text_part}
 
 asked : asked_or_usage (Some (Check (codes "p.sam"))) ≡ Ok (Check (codes "p.sam"))
 asked = refl
 
 no_usage : asked_or_usage None ≡ Err Usage
 no_usage = refl
+
+without_threads : ◌≡◌ {A = Part (List ℕ)} (serial_text_part (Check (codes "p.sam"))) (check_part (codes "p.sam"))
+without_threads = refl
+
+with_threads : ◌≡◌ {A = Part (List ℕ)} (serial_text_part (Run (codes "p.sam") (Some 4))) (gives (Err Usage))
+with_threads = refl

@@ -6,8 +6,8 @@ use Rattle.sam_base.specs.Causes.{Rose}
 use Rattle.sam_base.specs.Texts.{status_of, text_of}
 use Rattle.sam_io.specs.Outside.{grown, GrewByPart}
 use Rattle.sam_io.specs.Spans.{FilesSpan, SinkSpan}
+use Rattle.parts.specs.Parts.{Part}
 use Rattle.parts.specs.Answers.{Comes, Settles}
-use Rattle.sam_cmd.specs.Commands.{answer_part}
 
 -- the whole text was written, or the count rose and a prefix of it was
 abbrev pub Said : SinkSpan → List ℕ → Type 0
@@ -35,12 +35,18 @@ abbrev pub Leaves : Result (List ℕ) Fault → SinkSpan → SinkSpan → ℕ �
 Leaves (Ok text) out err status = Wrote text out err status ⊎ WroteInPart text out err status
 Leaves (Err fault) out err status = Refused fault out err status
 
--- some answer came by its cause, was the one that was due, and was given
-pub record Answered (words : List (List ℕ)) (files : FilesSpan) (out err : SinkSpan) (status : ℕ) : Type 0 where
+-- of these answers some one came by its cause, was the one that was due, and was given
+pub record Answered (answers : Part (List ℕ)) (files : FilesSpan) (out err : SinkSpan) (status : ℕ) : Type 0 where
   pub answer : Result (List ℕ) Fault
-  pub comes : Comes (answer_part words) files answer
-  pub settles : Settles (answer_part words) files answer
+  pub comes : Comes answers files answer
+  pub settles : Settles answers files answer
   pub leaves : Leaves answer out err status
+
+-- this answer was given, or that there is no memory
+pub record Gives (answer : Result (List ℕ) Fault) (out err : SinkSpan) (status : ℕ) : Type 0 where
+  pub given : Result (List ℕ) Fault
+  pub which : (given ≡ answer) ⊎ (given ≡ Err OutOfMemory)
+  pub leaves : Leaves given out err status
 
 -- that fault was said, or that there is no memory
 pub record ReportsFault (fault : Fault) (err : SinkSpan) (status : ℕ) : Type 0 where

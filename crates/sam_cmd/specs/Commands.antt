@@ -4,6 +4,7 @@ use Rattle.sam_base.specs.declared.faults.Fault.{Fault}
 use Rattle.sam_base.specs.declared.faults.Fault.TheVariants.{Usage}
 use Rattle.sam_model.specs.declared.program.Program.{Program}
 use Rattle.sam_model.specs.declared.tensors.Entries.{Entries}
+use Rattle.sam_model.specs.ResultText.{result_text}
 use Rattle.custard_lower.specs.Lowered.{low}
 use Rattle.graph_json.specs.Spelled.{graph_text}
 use Rattle.traces.specs.Traces.{streams_of, moment_of}
@@ -12,12 +13,13 @@ use Rattle.parts.specs.Parts.{Part, gives, followed, each_part}
 use Rattle.inputs.specs.Programs.{program_part}
 use Rattle.inputs.specs.Tensors.{tensor_part}
 use Rattle.words.specs.declared.asking.Command.{Command}
-use Rattle.words.specs.declared.asking.Command.TheVariants.{Check, Lower, Streams, Step, Moment, Large}
+use Rattle.words.specs.declared.asking.Command.TheVariants.{Check, Lower, Streams, Step, Moment, Run, Large}
 use Rattle.words.specs.declared.asking.Options.{Options}
 use Rattle.words.specs.Asked.{asked_of}
 use Rattle.runs.specs.declared.setup.Setup.{Setup}
 use Rattle.runs.specs.Setups.{setup_part}
 use Rattle.runs.specs.Runs.{run_part}
+use Rattle.thread_runs.specs.ThreadsFor.{threads_for}
 use Rattle.sam_cmd.specs.declared.running.Wanted.{Wanted}
 use Rattle.sam_cmd.specs.declared.running.Wanted.TheVariants as wanted
 
@@ -51,6 +53,14 @@ running_part wanted program options =
     followed (setup_part (low p) options) (λ setup.
     followed (each_part tensor_part p.tensors) (wanted_part wanted p setup)))
 
+-- The tensor, whatever the capacity of the wires: the work of threads has no other text.
+abbrev pub threads_part : List ℕ → Part (List ℕ)
+threads_part program =
+    followed (program_part program) (λ p.
+    followed (gives (threads_for (low p))) (λ g.
+    followed (each_part tensor_part p.tensors) (λ entries.
+    gives (Ok (result_text p entries)))))
+
 abbrev pub large_part : ℕ → Part (List ℕ)
 large_part number = gives (Ok (large_text number))
 
@@ -61,8 +71,19 @@ text_part (Lower program) = lower_part program
 text_part (Streams program) = streams_part program
 text_part (Step program options) = running_part wanted.Result program options
 text_part (Moment program options) = running_part wanted.Moment program options
+text_part (Run program capacity) = threads_part program
 text_part (Large number) = large_part number
 
 -- what the words answer
 abbrev pub answer_part : List (List ℕ) → Part (List ℕ)
 answer_part words = followed (gives (asked_or_usage (asked_of words))) text_part
+
+-- ---- without threads
+
+-- the text of a command for which no thread is made; `run` is answered by the usage
+abbrev pub serial_text_part : Command → Part (List ℕ)
+serial_text_part (Run program capacity) = gives (Err Usage)
+serial_text_part command = text_part command
+
+abbrev pub serial_part : List (List ℕ) → Part (List ℕ)
+serial_part words = followed (gives (asked_or_usage (asked_of words))) serial_text_part

@@ -1,5 +1,5 @@
 -- Where all that a command reads is accepted, it has its text.
-use Rattle.std.specs.Prelude.{ℕ, List, Option, Ok}
+use Rattle.std.specs.Prelude.{◌≤◌, ℕ, List, Option, Ok, length}
 use Rattle.sam_io.specs.Outside.{Told}
 use Rattle.sam_model.specs.declared.tensors.Entries.{Entries}
 use Rattle.sam_model.specs.declared.program.Program.{Program}
@@ -12,8 +12,9 @@ use Rattle.words.specs.declared.asking.Options.{Options}
 use Rattle.runs.specs.declared.setup.Setup.{Setup}
 use Rattle.runs.specs.Setups.{setup_part}
 use Rattle.runs.specs.Laws.{AmpleRoom}
+use Rattle.thread_runs.specs.declared.TheConstants.{THREADS_MOST}
 use Rattle.sam_cmd.specs.declared.running.Wanted.TheVariants.{Result}
-use Rattle.sam_cmd.specs.Commands.{running_part}
+use Rattle.sam_cmd.specs.Commands.{running_part, threads_part}
 
 -- With ample room on each channel `step` answers the tensor that the program denotes.
 abbrev pub StepCompletes : Type 0
@@ -22,3 +23,10 @@ StepCompletes =
     program_part program told (Ok p) → setup_part (low p) options told (Ok setup) →
     each_part tensor_part p.tensors told (Ok entries) → AmpleRoom p entries setup.capacities.each →
     running_part Result program options told (Ok (result_text p entries))
+
+-- `run` answers it where the graph isn't too large.
+abbrev pub RunCompletes : Type 0
+RunCompletes =
+    (told : Option Told) (program : List ℕ) (p : Program) (entries : List Entries) →
+    program_part program told (Ok p) → length (low p).blocks ≤ THREADS_MOST →
+    each_part tensor_part p.tensors told (Ok entries) → threads_part program told (Ok (result_text p entries))

@@ -1,10 +1,10 @@
-//! What a command answers: its text, or why there is none.
+//! What a command answers in one thread: its text, or why there is none.
 
 ghost use Rattle.std.specs.Prelude.{map, string_bytes};
 ghost use Rattle.sam_io.specs.Spans.{KeepsFiles, files_span};
-ghost use Rattle.parts.specs.Answers.{Comes, Settles};
+ghost use Rattle.parts.specs.Answers.{Comes};
 ghost use Rattle.words.specs.Asked.{IsInBounds};
-ghost use Rattle.sam_cmd.specs.Commands.{text_part, answer_part};
+ghost use Rattle.sam_cmd.specs.Commands.{serial_text_part, serial_part};
 
 use crate::asked::asked_command;
 use crate::check::check;
@@ -17,11 +17,10 @@ use sam_io::Files;
 use std::alloc::Global;
 use words::Command;
 
-/// The text of a command.
+/// The text of a command. `run` has none here: it takes threads.
 fn text<F: Files>(alloc: Global, files: &mut F, command: &Command) -> Result<Name, Fault>
     requires { IsInBounds command.now }
-    ensures keeps { KeepsFiles F.Files files.old files.new }
-    ensures comes { Comes (text_part command.now) (files_span F.Files files.old files.new) result }
+    ensures { Comes (serial_text_part command.now) (files_span F.Files files.old files.new) result }
 {
     match command {
         Command::Check { program } => check(alloc, files, program),
@@ -33,24 +32,17 @@ fn text<F: Files>(alloc: Global, files: &mut F, command: &Command) -> Result<Nam
         Command::Moment { program, options } => {
             running(alloc, files, Wanted::Moment, program, options)
         }
+        Command::Run { .. } => Err(Fault::Usage),
         Command::Large { number } => large(alloc, *number),
-    }
-}
-
-fn chain<F: Files>(alloc: Global, words: &[String], files: &mut F) -> Result<Name, Fault>
-    ensures keeps { KeepsFiles F.Files files.old files.new }
-    ensures comes { Comes (answer_part (map string_bytes words.now)) (files_span F.Files files.old files.new) result }
-{
-    match asked_command(alloc, words) {
-        Err(fault) => Err(fault),
-        Ok(command) => text(alloc, files, &command),
     }
 }
 
 /// What the words answer: the text that is to be written, or why there is none.
 pub fn answer<F: Files>(alloc: Global, words: &[String], files: &mut F) -> Result<Name, Fault>
-    ensures comes { Comes (answer_part (map string_bytes words.now)) (files_span F.Files files.old files.new) result }
-    ensures settles { Settles (answer_part (map string_bytes words.now)) (files_span F.Files files.old files.new) result }
+    ensures { Comes (serial_part (map string_bytes words.now)) (files_span F.Files files.old files.new) result }
 {
-    chain(alloc, words, files)
+    match asked_command(alloc, words) {
+        Err(fault) => Err(fault),
+        Ok(command) => text(alloc, files, &command),
+    }
 }

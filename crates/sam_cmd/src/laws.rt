@@ -1,11 +1,17 @@
 //! The laws of commands.
 //!
-//! A function here has no body but its contract, which speaks of the same parts as that of `sam_serial`.
+//! A function here has no body but its contract, which speaks of the same parts as that of `sam`.
 
-ghost use Rattle.sam_cmd.specs.Laws.{StepCompletes};
+ghost use Rattle.sam_cmd.specs.Laws.{StepCompletes, RunCompletes};
 
 /// Where the files that `step` reads are there and accepted, its options name channels that are there, and each given capacity
 /// is at least as large as its channel's stream is long, the answer that is due is the tensor that the program denotes.
 pub fn step_completes()
     ensures { StepCompletes }
+{}
+
+/// Where the files that `run` reads are there and accepted, and the graph has at most 256 blocks, the answer that is due is the
+/// tensor that the program denotes. That says nothing of whether the run ends.
+pub fn run_completes()
+    ensures { RunCompletes }
 {}

@@ -1,11 +1,12 @@
 //! The commands: their words, their answers and what they write.
 //!
 //! One call does all that the program does. Its contract says which answer it gives and why, and what it leaves on the
-//! two sinks.
+//! two sinks. Another does the same without a thread, for every command but `run`.
 #![tactic(auto)]
 
 ghost use Rattle.std.specs.Prelude.{◌≡◌, ◌≢◌, map, string_bytes};
 ghost use Rattle.sam_io.specs.Spans.{files_span, sink_span};
+ghost use Rattle.sam_cmd.specs.Commands.{answer_part, serial_part};
 ghost use Rattle.sam_cmd.specs.Answers.{Answered};
 
 mod answer;
@@ -16,13 +17,20 @@ mod lower;
 mod report;
 mod running;
 mod streams;
+mod threads;
 mod workload;
 
 use answer::answer;
-pub use laws::step_completes;
-use report::{report, say};
-use sam_io::{Files, Sink, write_whole};
+use asked::asked_command;
+use block_threads::Gate;
+pub use laws::{run_completes, step_completes};
+use report::give;
+use sam_io::{Files, Sink};
 use std::alloc::Global;
+use std::sync::Wait;
+use std::thread::Threads;
+use threads::run;
+use words::Command;
 
 /// Runs a command, and answers its exit status.
 ///
@@ -36,10 +44,44 @@ use std::alloc::Global;
 ///   can move and one isn't finished answers the blocks that wait.
 /// - `moment FILE` reads what `step` reads, with the same options, and writes what was sent on each channel when the schedule
 ///   ends.
+/// - `run FILE` writes the same tensor as `step`, computed with a thread for every block. Its option is `--capacity n`, how many
+///   messages each channel may hold. A graph of more than 256 blocks is refused.
 /// - `large N` makes the workload of that number, runs its graph, and writes how many entries the result has, the sum of their
 ///   values and the number of events.
 ///
-/// The contract says which other answers there are and when each comes.
+/// The contract says which other answers there are and when each comes. No proof says that `run` ends: with too small a capacity
+/// it may wait for ever, and `step --capacity` tells before whether one is large enough. Nothing but `run` waits. The gate is told
+/// of what the works of blocks do.
+pub fn sam<F: Files, O: Sink, E: Sink, G: Gate + Sync, R: Threads + Wait + Sync>(
+    rt: &R,
+    alloc: Global,
+    words: &[String],
+    files: &mut F,
+    out: &mut O,
+    err: &mut E,
+    gate: &G,
+) -> u8
+    ensures answered { Answered (answer_part (map string_bytes words.now)) (files_span F.Files files.old files.new)
+        (sink_span O.Sink out.old out.new) (sink_span E.Sink err.old err.new) result }
+
+    // no call at all was made on them, and not only nothing written
+    ensures quiet { result ≡ 0 → err.new ≡ err.old }
+    ensures untouched { result ≢ 0 → result ≢ 7 → out.new ≡ out.old }
+{
+    let command = match asked_command(alloc, words) {
+        Ok(command) => command,
+        Err(fault) => return give(alloc, &Err(fault), out, err),
+    };
+    match &command {
+        Command::Run { program, capacity } => {
+            let text = run(rt, alloc, files, program, *capacity, gate);
+            give(alloc, &text, out, err)
+        }
+        _ => sam_serial(alloc, words, files, out, err),
+    }
+}
+
+/// Runs a command as `sam` does, but waits for nobody and always returns: `run` is answered by the usage.
 pub fn sam_serial<F: Files, O: Sink, E: Sink>(
     alloc: Global,
     words: &[String],
@@ -47,21 +89,13 @@ pub fn sam_serial<F: Files, O: Sink, E: Sink>(
     out: &mut O,
     err: &mut E,
 ) -> u8
-    ensures answered { Answered (map string_bytes words.now) (files_span F.Files files.old files.new)
+    ensures answered { Answered (serial_part (map string_bytes words.now)) (files_span F.Files files.old files.new)
         (sink_span O.Sink out.old out.new) (sink_span E.Sink err.old err.new) result }
 
     // no call at all was made on them, and not only nothing written
     ensures quiet { result ≡ 0 → err.new ≡ err.old }
     ensures untouched { result ≢ 0 → result ≢ 7 → out.new ≡ out.old }
 {
-    match answer(alloc, words, files) {
-        Ok(text) => match write_whole(out, text.as_bytes()) {
-            Ok(()) => 0,
-            Err(_) => {
-                say(err, b"sam: write fault\n");
-                7
-            }
-        },
-        Err(fault) => report(alloc, &fault, err),
-    }
+    let text = answer(alloc, words, files);
+    give(alloc, &text, out, err)
 }

@@ -1,20 +1,15 @@
-use Rattle.std.proofs.Common.{refl, inr, subst}
-use Rattle.std.specs.Prelude.{Ok}
-use Rattle.sam_io.specs.Outside.{GrewByPart}
-use Rattle.sam_cmd.proofs.ReportLemmas.{reported}
+use Rattle.std.proofs.Common.{map, string_bytes}
+use Rattle.sam_io.specs.Spans.{files_span, sink_span}
+use Rattle.sam_cmd.specs.Commands.{serial_part}
+use Rattle.sam_cmd.proofs.CommandLemmas.{one_serial}
+use Rattle.sam_cmd.proofs.ReportLemmas.{answered}
 use Rattle.sam_cmd.proofs.sam_serial.Goals as goal
 
-pub returns-in-Ok-clause-answered : goal.returns-in-Ok-clause-answered
-returns-in-Ok-clause-answered g c =
-    let failed = c.in-Err-write_whole.ensures in
-    let part =
-    subst (GrewByPart (g.O.Sink.written c.args.out.now) (g.O.Sink.written c.write_whole.new.out)) c.as_bytes.ensures failed.part in
-    record {
-      answer = Ok c.in-Ok.text;
-      comes = c.in-Ok.ensures.comes;
-      settles = c.in-Ok.ensures.settles;
-      leaves = inr (record { is_status = refl; cause = failed.cause.failed; part = part; said = c.say.ensures });
-    }
-
 pub returns-clause-answered : goal.returns-clause-answered
-returns-clause-answered g c = reported _ _ _ _ _ _ c.in-Err.ensures.comes c.in-Err.ensures.settles refl c.report.ensures
+returns-clause-answered g c =
+    let words = map string_bytes c.args.words.now in
+    let files = files_span g.F.Files c.args.files.now c.answer-text.new.files in
+    let out = sink_span g.O.Sink c.args.out.now c.give.new.out in
+    let err = sink_span g.E.Sink c.args.err.now c.give.new.err in
+    answered out err c.give.result (serial_part words) (one_serial words) files c.answer-text.result c.answer-text.ensures
+    c.give.ensures.gives

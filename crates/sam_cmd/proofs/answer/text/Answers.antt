@@ -2,20 +2,20 @@ use Rattle.std.proofs.Common.{subst, sym}
 use Rattle.sam_io.specs.Spans.{files_span}
 use Rattle.parts.specs.Answers.{Comes}
 use Rattle.words.specs.declared.asking.Command.{Command}
-use Rattle.sam_cmd.specs.Commands.{text_part}
+use Rattle.sam_cmd.specs.Commands.{serial_text_part}
 use Rattle.sam_cmd.proofs.answer.text.Goals as goal
 
-pub returns-in-Step-clause-comes : goal.returns-in-Step-clause-comes
-returns-in-Step-clause-comes g c =
+pub returns-in-Step : goal.returns-in-Step
+returns-in-Step g c =
     let files = files_span g.F.Files c.args.files.now c.running.new.files in
-    subst (λ (command : Command). Comes (text_part command) files c.running.result) (sym c.in-Step.is) c.running.ensures.comes
+    subst (λ (command : Command). Comes (serial_text_part command) files c.running.result) (sym c.in-Step.is) c.running.ensures.comes
 
-pub returns-in-Moment-clause-comes : goal.returns-in-Moment-clause-comes
-returns-in-Moment-clause-comes g c =
+pub returns-in-Moment : goal.returns-in-Moment
+returns-in-Moment g c =
     let files = files_span g.F.Files c.args.files.now c.running-in-Moment.new.files in
-    subst (λ (command : Command). Comes (text_part command) files c.running-in-Moment.result) (sym c.in-Moment.is) c.running-in-Moment.ensures.comes
+    subst (λ (command : Command). Comes (serial_text_part command) files c.running-in-Moment.result) (sym c.in-Moment.is) c.running-in-Moment.ensures.comes
 
-pub returns-in-Large-clause-comes : goal.returns-in-Large-clause-comes
-returns-in-Large-clause-comes g c =
+pub returns-in-Large : goal.returns-in-Large
+returns-in-Large g c =
     let files = files_span g.F.Files c.args.files.now c.args.files.now in
-    subst (λ (command : Command). Comes (text_part command) files c.large.result) (sym c.in-Large.is) (c.large.ensures files)
+    subst (λ (command : Command). Comes (serial_text_part command) files c.large.result) (sym c.in-Large.is) (c.large.ensures files)

@@ -1,0 +1,108 @@
+//! `run`: a program's graph with a thread for every block.
+
+ghost use Rattle.std.specs.Prelude.{◌≡◌, ◌≤◌, List, true, Ok, IfOk, IfSome};
+ghost use Rattle.sam_base.specs.declared.TheConstants.{CAPACITY_MOST};
+ghost use Rattle.sam_io.specs.Spans.{KeepsFiles, files_span};
+ghost use Rattle.sam_model.specs.declared.tensors.Entries.{Entries};
+ghost use Rattle.sam_model.specs.Accepted.{accepted};
+ghost use Rattle.sam_model.specs.ResultText.{result_text};
+ghost use Rattle.custard_lower.specs.Lowered.{Lowered, low};
+ghost use Rattle.parts.specs.Parts.{gives, followed, each_part};
+ghost use Rattle.parts.specs.Answers.{Comes, ComesAlways};
+ghost use Rattle.inputs.specs.Tensors.{tensor_part};
+ghost use Rattle.words.specs.Asked.{IsCapacityGiven};
+ghost use Rattle.thread_runs.specs.ThreadsFor.{threads_for};
+ghost use Rattle.sam_cmd.specs.Commands.{threads_part};
+
+use block_threads::Gate;
+use graph::Graph;
+use inputs::{program, storages};
+use sam_base::{Fault, Name};
+use sam_io::Files;
+use sam_model::Program;
+use std::alloc::Global;
+use std::sync::Wait;
+use std::thread::Threads;
+use thread_runs::{RUN_CAPACITY, run_threads, threads_for};
+
+/// The graph of a program, where it may have a thread for every block.
+fn threaded_graph(alloc: Global, p: &Program) -> Result<Graph, Fault>
+    requires { accepted p.now ≡ true }
+    ensures lowered { IfOk result (Lowered p.now) }
+    ensures comes { ComesAlways (gives (threads_for (low p.now))) result }
+{
+    match custard_lower::lower(alloc, p) {
+        Ok(graph) => threads_for(graph),
+        Err(_) => Err(Fault::OutOfMemory),
+    }
+}
+
+/// Reads the tensors, and runs the graph over them.
+fn tensors_text<F: Files, G: Gate + Sync, R: Threads + Wait + Sync>(
+    rt: &R,
+    alloc: Global,
+    files: &mut F,
+    p: &Program,
+    g: &Graph,
+    capacity: u32,
+    gate: &G,
+) -> Result<Name, Fault>
+    requires accepted { accepted p.now ≡ true }
+    requires lowered { Lowered p.now g.now }
+    requires capacity { (1 ≤ capacity) × (capacity ≤ CAPACITY_MOST) }
+    ensures keeps { KeepsFiles F.Files files.old files.new }
+    ensures comes { Comes (followed (each_part tensor_part p.now.tensors) (λ entries. gives (Ok (result_text p.now entries))))
+        (files_span F.Files files.old files.new) result }
+{
+    match storages(alloc, files, p.tensors.as_slice()) {
+        Err(fault) => Err(fault),
+        Ok(storages) => match run_threads(rt, alloc, p, g, storages.as_slice(), capacity, gate) {
+            Ok(text) => Ok(text),
+            Err(_) => Err(Fault::OutOfMemory),
+        },
+    }
+}
+
+/// Lowers the program, reads the tensors, and runs the graph over them.
+fn program_text<F: Files, G: Gate + Sync, R: Threads + Wait + Sync>(
+    rt: &R,
+    alloc: Global,
+    files: &mut F,
+    p: &Program,
+    capacity: u32,
+    gate: &G,
+) -> Result<Name, Fault>
+    requires accepted { accepted p.now ≡ true }
+    requires capacity { (1 ≤ capacity) × (capacity ≤ CAPACITY_MOST) }
+    ensures keeps { KeepsFiles F.Files files.old files.new }
+    ensures comes { Comes (followed (gives (threads_for (low p.now))) (λ g.
+        followed (each_part tensor_part p.now.tensors) (λ entries. gives (Ok (result_text p.now entries)))))
+        (files_span F.Files files.old files.new) result }
+{
+    match threaded_graph(alloc, p) {
+        Err(fault) => Err(fault),
+        Ok(graph) => tensors_text(rt, alloc, files, p, &graph, capacity, gate),
+    }
+}
+
+/// Reads the program and the tensors, and answers the tensor that the program denotes, computed by threads. The capacity of
+/// every channel is `RUN_CAPACITY` where none is given.
+pub fn run<F: Files, G: Gate + Sync, R: Threads + Wait + Sync>(
+    rt: &R,
+    alloc: Global,
+    files: &mut F,
+    name: &Name,
+    capacity: Option<u32>,
+    gate: &G,
+) -> Result<Name, Fault>
+    requires { IfSome capacity IsCapacityGiven }
+    ensures { Comes (threads_part name.now) (files_span F.Files files.old files.new) result }
+{
+    match program(alloc, files, name) {
+        Err(fault) => Err(fault),
+        Ok(program) => {
+            let capacity = capacity.unwrap_or(RUN_CAPACITY);
+            program_text(rt, alloc, files, &program, capacity, gate)
+        }
+    }
+}
