@@ -102,7 +102,7 @@ $ streams p.sam
 
 #[test]
 fn streams_are_written(rt: HostRuntime) -> Result<(), Fail> {
-    let told = replayed(rt.alloc(), STREAMS)?;
+    let told = replayed(&rt, rt.alloc(), STREAMS)?;
     assert!(rt; told.as_str() == STREAMS, "{told}");
     Ok(())
 }
@@ -197,7 +197,7 @@ $ moment p.sam --schedule s.txt --of 0=1
 
 #[test]
 fn moments_are_written(rt: HostRuntime) -> Result<(), Fail> {
-    let told = replayed(rt.alloc(), MOMENTS)?;
+    let told = replayed(&rt, rt.alloc(), MOMENTS)?;
     assert!(rt; told.as_str() == MOMENTS, "{told}");
     Ok(())
 }
@@ -214,7 +214,7 @@ $ large 2
 
 #[test]
 fn the_workload_is_run(rt: HostRuntime) -> Result<(), Fail> {
-    let told = replayed(rt.alloc(), LARGE)?;
+    let told = replayed(&rt, rt.alloc(), LARGE)?;
     assert!(rt; told.as_str() == LARGE, "{told}");
     Ok(())
 }

@@ -24,7 +24,13 @@ $ step
 $ walk p.sam
 ! sam: usage: sam COMMAND SUBJECT [--capacity N] [--of C=N,..] [--schedule FILE]
 = 2
-$ run p.sam
+$ run p.sam --of 0=1
+! sam: usage: sam COMMAND SUBJECT [--capacity N] [--of C=N,..] [--schedule FILE]
+= 2
+$ run p.sam --schedule s.txt
+! sam: usage: sam COMMAND SUBJECT [--capacity N] [--of C=N,..] [--schedule FILE]
+= 2
+$ run p.sam --capacity 0
 ! sam: usage: sam COMMAND SUBJECT [--capacity N] [--of C=N,..] [--schedule FILE]
 = 2
 $ p.sam step
@@ -125,7 +131,7 @@ $ step p.sam --schedule=Zeitplan·ß
 
 #[test]
 fn words_are_read(rt: HostRuntime) -> Result<(), Fail> {
-    let told = replayed(rt.alloc(), WORDS)?;
+    let told = replayed(&rt, rt.alloc(), WORDS)?;
     assert!(rt; told.as_str() == WORDS, "{told}");
     Ok(())
 }

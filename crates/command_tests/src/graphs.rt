@@ -172,7 +172,7 @@ $ lower p.sam
 
 #[test]
 fn graphs_are_written(rt: HostRuntime) -> Result<(), Fail> {
-    let told = replayed(rt.alloc(), GRAPHS)?;
+    let told = replayed(&rt, rt.alloc(), GRAPHS)?;
     assert!(rt; told.as_str() == GRAPHS, "{told}");
     Ok(())
 }

@@ -1,5 +1,5 @@
-//! Tests of the commands: transcripts of worked cases through the one call over files and sinks in memory, the machine on a
-//! lowered graph, and the adapters over real files and the standard streams.
+//! Tests of the commands: transcripts of worked cases through the one call over files and sinks in memory, threads that meet at a
+//! gate, the machine on a lowered graph, and the adapters over real files and the standard streams.
 //!
 //! They stand in a crate of their own, so that the crates that they test are proved once.
 #![tactic(auto)]
@@ -15,6 +15,8 @@ mod limits;
 #[cfg(test)]
 mod machine;
 #[cfg(test)]
+mod meeting;
+#[cfg(test)]
 mod options;
 #[cfg(test)]
 mod outside;
@@ -22,5 +24,7 @@ mod outside;
 mod refusals;
 #[cfg(test)]
 mod results;
+#[cfg(test)]
+mod threads;
 #[cfg(test)]
 mod transcripts;

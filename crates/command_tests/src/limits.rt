@@ -92,6 +92,17 @@ fn a_file_may_have_too_many_entries(rt: HostRuntime) -> Result<(), Fail> {
     Ok(())
 }
 
+/// The call that waits for nobody serves every command but `run`.
+#[test]
+fn run_needs_threads(rt: HostRuntime) -> Result<(), Fail> {
+    let alloc = rt.alloc();
+    let copy = Name::from_slice(alloc, COPY)?;
+    let (status, err) = said(alloc, &["run", "p.sam"], copy, Name::new(alloc))?;
+    assert_eq!(rt; status, 2);
+    assert!(rt; err.bytes().starts_with(b"sam: usage: "));
+    Ok(())
+}
+
 /// Capacities of the channels from 0 on, so many.
 fn many_pairs(alloc: Global, pairs: u32) -> Result<String, AllocError> {
     let mut text = String::from_str(alloc, "0=1")?;

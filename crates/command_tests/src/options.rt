@@ -143,7 +143,7 @@ $ step p.sam --of 7=2 --schedule s.txt
 
 #[test]
 fn runs_may_stall(rt: HostRuntime) -> Result<(), Fail> {
-    let told = replayed(rt.alloc(), STALLS)?;
+    let told = replayed(&rt, rt.alloc(), STALLS)?;
     assert!(rt; told.as_str() == STALLS, "{told}");
     Ok(())
 }
@@ -234,7 +234,7 @@ $ step p.sam --schedule s.txt
 
 #[test]
 fn schedules_are_played(rt: HostRuntime) -> Result<(), Fail> {
-    let told = replayed(rt.alloc(), SCHEDULES)?;
+    let told = replayed(&rt, rt.alloc(), SCHEDULES)?;
     assert!(rt; told.as_str() == SCHEDULES, "{told}");
     Ok(())
 }

@@ -78,7 +78,7 @@ $ step p.sam
 
 #[test]
 fn programs_are_checked(rt: HostRuntime) -> Result<(), Fail> {
-    let told = replayed(rt.alloc(), PROGRAMS)?;
+    let told = replayed(&rt, rt.alloc(), PROGRAMS)?;
     assert!(rt; told.as_str() == PROGRAMS, "{told}");
     Ok(())
 }
@@ -118,7 +118,7 @@ $ step p.sam
 
 #[test]
 fn files_may_be_faulty(rt: HostRuntime) -> Result<(), Fail> {
-    let told = replayed(rt.alloc(), FILES)?;
+    let told = replayed(&rt, rt.alloc(), FILES)?;
     assert!(rt; told.as_str() == FILES, "{told}");
     Ok(())
 }
@@ -174,7 +174,7 @@ $ step p.sam
 
 #[test]
 fn files_are_read_in_order(rt: HostRuntime) -> Result<(), Fail> {
-    let told = replayed(rt.alloc(), ORDER)?;
+    let told = replayed(&rt, rt.alloc(), ORDER)?;
     assert!(rt; told.as_str() == ORDER, "{told}");
     Ok(())
 }
@@ -230,7 +230,7 @@ $ step p.sam
 
 #[test]
 fn tensors_may_be_refused(rt: HostRuntime) -> Result<(), Fail> {
-    let told = replayed(rt.alloc(), TENSORS)?;
+    let told = replayed(&rt, rt.alloc(), TENSORS)?;
     assert!(rt; told.as_str() == TENSORS, "{told}");
     Ok(())
 }

@@ -109,7 +109,7 @@ $ step p.sam
 
 #[test]
 fn products_are_written(rt: HostRuntime) -> Result<(), Fail> {
-    let told = replayed(rt.alloc(), PRODUCTS)?;
+    let told = replayed(&rt, rt.alloc(), PRODUCTS)?;
     assert!(rt; told.as_str() == PRODUCTS, "{told}");
     Ok(())
 }
@@ -166,7 +166,7 @@ $ step p.sam
 
 #[test]
 fn copies_are_written(rt: HostRuntime) -> Result<(), Fail> {
-    let told = replayed(rt.alloc(), COPIES)?;
+    let told = replayed(&rt, rt.alloc(), COPIES)?;
     assert!(rt; told.as_str() == COPIES, "{told}");
     Ok(())
 }
@@ -281,7 +281,7 @@ $ step p.sam
 
 #[test]
 fn sums_are_written(rt: HostRuntime) -> Result<(), Fail> {
-    let told = replayed(rt.alloc(), SUMS)?;
+    let told = replayed(&rt, rt.alloc(), SUMS)?;
     assert!(rt; told.as_str() == SUMS, "{told}");
     Ok(())
 }
@@ -405,7 +405,7 @@ $ step p.sam
 
 #[test]
 fn terms_are_joined(rt: HostRuntime) -> Result<(), Fail> {
-    let told = replayed(rt.alloc(), TERMS)?;
+    let told = replayed(&rt, rt.alloc(), TERMS)?;
     assert!(rt; told.as_str() == TERMS, "{told}");
     Ok(())
 }
@@ -439,7 +439,7 @@ $ check p.sam
 
 #[test]
 fn a_write_may_fail(rt: HostRuntime) -> Result<(), Fail> {
-    let told = replayed(rt.alloc(), WRITES)?;
+    let told = replayed(&rt, rt.alloc(), WRITES)?;
     assert!(rt; told.as_str() == WRITES, "{told}");
     Ok(())
 }

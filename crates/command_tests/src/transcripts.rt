@@ -10,12 +10,15 @@
 //!
 //! Replayed, a transcript is written anew with the answers that are given. It holds where that is the same text.
 
+use block_threads::OpenGate;
 use sam_base::{Items, Name, Nums};
-use sam_cmd::sam_serial;
+use sam_cmd::sam;
 use sam_io::{MemFiles, MemSink};
 use std::alloc::{AllocError, Global};
 use std::str;
+use std::sync::Wait;
 use std::test::Fail;
+use std::thread::Threads;
 
 /// What a transcript has set up so far.
 #[derive(Drop)]
@@ -86,7 +89,12 @@ impl Stage {
     }
 
     /// Runs a command, and writes what it answers.
-    fn run(&mut self, command: &str, told: &mut String) -> Result<(), Fail> {
+    fn run<R: Threads + Wait + Sync>(
+        &mut self,
+        rt: &R,
+        command: &str,
+        told: &mut String,
+    ) -> Result<(), Fail> {
         let mut words = Vec::new(self.alloc);
         for word in command.split_terminator(' ') {
             words.push(String::from_str(self.alloc, word)?)?;
@@ -94,7 +102,9 @@ impl Stage {
         let mut files = self.files()?;
         let mut out = sink(self.alloc, self.output_fails)?;
         let mut err = sink(self.alloc, 0)?;
-        let status = sam_serial(self.alloc, &words, &mut files, &mut out, &mut err);
+        let status = sam(
+            rt, self.alloc, &words, &mut files, &mut out, &mut err, &OpenGate,
+        );
         self.file_fails = 0;
         self.output_fails = 0;
         match (str::from_utf8(out.bytes()), str::from_utf8(err.bytes())) {
@@ -136,11 +146,8 @@ impl Stage {
         }
     }
 
-    /// Does what a line says that is no answer.
-    fn follow(&mut self, line: &str, told: &mut String) -> Result<(), Fail> {
-        if let Some(command) = line.strip_prefix('$') {
-            return self.run(command.strip_prefix(' ').unwrap_or(""), told);
-        }
+    /// Sets up what a line says that is neither a command nor an answer.
+    fn set_up(&mut self, line: &str) -> Result<(), Fail> {
         if let Some(file) = line.strip_prefix("--- ") {
             self.files
                 .push((name(self.alloc, file)?, Name::new(self.alloc)))?;
@@ -162,22 +169,32 @@ impl Stage {
 /// The files of a transcript.
 pub fn files_of(alloc: Global, transcript: &str) -> Result<MemFiles, Fail> {
     let mut stage = Stage::new(alloc);
-    let mut told = String::new(alloc);
     for line in transcript.split_terminator('\n') {
-        stage.follow(line, &mut told)?;
+        stage.set_up(line)?;
     }
     Ok(stage.files()?)
 }
 
 /// The transcript with the answers that are given.
-pub fn replayed(alloc: Global, transcript: &str) -> Result<String, Fail> {
+pub fn replayed<R: Threads + Wait + Sync>(
+    rt: &R,
+    alloc: Global,
+    transcript: &str,
+) -> Result<String, Fail> {
     let mut told = String::new(alloc);
     let mut stage = Stage::new(alloc);
     for line in transcript.split_terminator('\n') {
-        if !is_answer(line) {
-            told.push_str(line)?;
-            told.push('\n')?;
-            stage.follow(line, &mut told)?;
+        if is_answer(line) {
+            continue;
+        }
+        told.push_str(line)?;
+        told.push('\n')?;
+        match line.strip_prefix('$') {
+            Some(command) => {
+                let words = command.strip_prefix(' ').unwrap_or("");
+                stage.run(rt, words, &mut told)?;
+            }
+            None => stage.set_up(line)?,
         }
     }
     Ok(told)
