@@ -2,6 +2,7 @@
 
 ghost use Rattle.std.specs.Prelude.{◌≡◌, ◌<◌, ◌≤◌, ◌^◌, ℕ, false, map, length, List, Some, slice_get, IfOk};
 ghost use Rattle.sam_model.specs.Children.{Ranked};
+ghost use Rattle.sam_base.specs.declared.TheConstants.{CAPACITY_MOST};
 ghost use Rattle.graph.specs.Wiring.{WellFormed};
 ghost use Rattle.graph.specs.WholeStreams.{Consistent};
 ghost use Rattle.graph.specs.Standing.{StandAt, start_position, final_position};
@@ -33,7 +34,7 @@ fn tasks_for<W: Streams, B: Drop>(
     requires few_channels { length g.now.channels < 2 ^ 32 }
     requires number { length blocks.items ≡ length g.now.blocks }
     requires streams { length W.streams ≡ length g.now.channels }
-    requires capacity { (1 ≤ capacity) × (capacity ≤ 1048576) }
+    requires capacity { (1 ≤ capacity) × (capacity ≤ CAPACITY_MOST) }
     ensures number { IfOk result (λ tasks. length tasks.items ≡ length blocks.items) }
     ensures jobs { IfOk result (λ tasks. (b : ℕ) (x : B) → slice_get blocks.items b ≡ Some x → (j : Job W B) × (slice_get tasks.items b ≡ Some (Task.Ready j)) × (j.block ≡ x) × HasWires g.now b j.ins.items j.outs.items) }
 {
@@ -82,7 +83,7 @@ fn run_on<W: Streams + Send, B: BlockStep + Send + Drop, G: Gate + Sync, R: Thre
     requires few_channels { length g.now.channels < 2 ^ 32 }
     requires own { (storages : List Ranked) × Consistent storages g.now × StandAt B.kind B.stands storages g.now start_position blocks.items }
     requires streams { W.streams ≡ wired_streams (map B.kind blocks.items) g.now }
-    requires capacity { (1 ≤ capacity) × (capacity ≤ 1048576) }
+    requires capacity { (1 ≤ capacity) × (capacity ≤ CAPACITY_MOST) }
     ensures finished { IfOk result (λ done. (storages : List Ranked) → Consistent storages g.now → StandAt B.kind B.stands storages g.now start_position blocks.items → StandAt B.kind B.stands storages g.now (final_position storages g.now) done.items) }
 {
     let order = forward_order(alloc, g)?;
@@ -91,7 +92,7 @@ fn run_on<W: Streams + Send, B: BlockStep + Send + Drop, G: Gate + Sync, R: Thre
     blocks_of(alloc, tasks)
 }
 
-/// Runs a graph with a thread for every block, on wires that hold at most `capacity` messages, from 1 to 1,048,576.
+/// Runs a graph with a thread for every block, on wires that hold at most `capacity` messages, from 1 to `CAPACITY_MOST`.
 ///
 /// `blocks` are the graph's own, in order, at their starts. `Ok` has every block finished on the whole streams of the graph, in
 /// the same order; the one refusal is want of memory. No proof says that the run ends.
@@ -107,7 +108,7 @@ pub fn run_graph<B: BlockStep + Send + Drop, G: Gate + Sync, R: Threads + Wait +
     requires few_blocks { length g.now.blocks < 2 ^ 32 }
     requires few_channels { length g.now.channels < 2 ^ 32 }
     requires own { (storages : List Ranked) × Consistent storages g.now × StandAt B.kind B.stands storages g.now start_position blocks.items }
-    requires capacity { (1 ≤ capacity) × (capacity ≤ 1048576) }
+    requires capacity { (1 ≤ capacity) × (capacity ≤ CAPACITY_MOST) }
     ensures finished { IfOk result (λ done. (storages : List Ranked) → Consistent storages g.now → StandAt B.kind B.stands storages g.now start_position blocks.items → StandAt B.kind B.stands storages g.now (final_position storages g.now) done.items) }
 {
     run_on::<Brand, B, G, R>(rt, alloc, g, blocks, capacity, gate)

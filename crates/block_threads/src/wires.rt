@@ -1,6 +1,7 @@
 //! The wires of a graph's channels.
 
 ghost use Rattle.std.specs.Prelude.{◌≡◌, ◌<◌, ◌≤◌, ◌^◌, ◌+◌, ◌≢◌, ℕ, length, slice_get, slice_index, Some, IfOk};
+ghost use Rattle.sam_base.specs.declared.TheConstants.{CAPACITY_MOST};
 ghost use Rattle.graph.specs.Wiring.{WellFormed};
 ghost use Rattle.ruled_wires.specs.Ends.{fresh_end};
 ghost use Rattle.block_threads.specs.Wires.{EndWaits, WaitFrom, HasWires};
@@ -45,7 +46,7 @@ impl<W: Streams> Wires<W> {
     pub(crate) fn new(alloc: Global, g: &Graph, capacity: u32) -> Result<Wires<W>, AllocError>
         requires streams { length W.streams ≡ length g.now.channels }
         requires few_channels { length g.now.channels < 2 ^ 32 }
-        requires capacity { (1 ≤ capacity) × (capacity ≤ 1048576) }
+        requires capacity { (1 ≤ capacity) × (capacity ≤ CAPACITY_MOST) }
         ensures { IfOk result (λ wires. WaitFrom g.now 0 wires.senders.items wires.receivers.items) }
     {
         let count = g.channels.len();
