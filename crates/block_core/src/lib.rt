@@ -12,8 +12,10 @@ ghost use Rattle.block_core.specs.Kind.{Kind, Fits, outputs, moves, ins_of, outs
 ghost use Rattle.block_core.specs.Flows.{Passes};
 
 mod arithmetic;
+mod refusing;
 
 pub use arithmetic::plus;
+pub use refusing::Refusing;
 use std::alloc::AllocError;
 use stream_tokens::Token;
 
