@@ -12,7 +12,7 @@ use Rattle.std.proofs.lemmas.Bool.{and_parts, ltb-true}
 use Rattle.stream_model.specs.declared.labels.Side.{Side}
 use Rattle.stream_model.specs.declared.labels.Side.TheVariants.{Left, Right}
 use Rattle.stream_model.specs.declared.labels.Tree.{Tree}
-use Rattle.stream_model.specs.declared.labels.Tree.TheVariants.{Root, Product, Reduced, Joined, Beside}
+use Rattle.stream_model.specs.declared.labels.Tree.TheVariants.{Root, Product, Reduced, Joined, Beside, Across, Under, UnderReduced, UnderJoined}
 use Rattle.stream_model.specs.declared.labels.Attr.{Attr}
 use Rattle.stream_model.specs.declared.labels.Attr.TheVariants.{Coordinate, Rank, FactorValue, Partial, Whole, Value, Present, SideValue, Literal}
 use Rattle.stream_model.specs.declared.labels.Label.{Label}
@@ -70,6 +70,10 @@ tree_ascii (Beside last side depth) =
     let side_depth = IsAscii-append (side_text side) (spaced (depth ∷ [])) (side_ascii side) (spaced_ascii (depth ∷ [])) in
     IsAscii-append (codes "beside") (spaced (last ∷ []) ++ (32 ∷ side_on)) (ascii_by_test (codes "beside") refl)
     (IsAscii-append (spaced (last ∷ [])) (32 ∷ side_on) (spaced_ascii (last ∷ [])) (IsAscii-cons 32 side_on (omega arith) side_depth))
+tree_ascii (Across upto term depth) = numbered (codes "across") (upto ∷ term ∷ depth ∷ []) refl
+tree_ascii (Under term level mask) = numbered (codes "under") (term ∷ level ∷ mask ∷ []) refl
+tree_ascii (UnderReduced term gone depth) = numbered (codes "underreduced") (term ∷ gone ∷ depth ∷ []) refl
+tree_ascii (UnderJoined last prune depth) = numbered (codes "underjoined") (last ∷ prune ∷ depth ∷ []) refl
 
 attr_ascii : (attr : Attr) → IsAscii (attr_text attr)
 attr_ascii Coordinate = ascii_by_test (codes "coordinate") refl
@@ -92,6 +96,10 @@ told_ascii (Product term level mask) attr = both_ascii (Product term level mask)
 told_ascii (Reduced term gone prune depth) attr = both_ascii (Reduced term gone prune depth) attr
 told_ascii (Joined last depth) attr = both_ascii (Joined last depth) attr
 told_ascii (Beside last side depth) attr = both_ascii (Beside last side depth) attr
+told_ascii (Across upto term depth) attr = both_ascii (Across upto term depth) attr
+told_ascii (Under term level mask) attr = both_ascii (Under term level mask) attr
+told_ascii (UnderReduced term gone depth) attr = both_ascii (UnderReduced term gone depth) attr
+told_ascii (UnderJoined last prune depth) attr = both_ascii (UnderJoined last prune depth) attr
 
 pub text_of_label-utf8 : (label : Label) → IsUtf8 (text_of_label label)
 text_of_label-utf8 label = IsUtf8-from_ascii (text_of_label label) (told_ascii label.tree label.attr)

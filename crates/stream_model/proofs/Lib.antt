@@ -1,8 +1,10 @@
 mod Spaced
 mod Rows
 mod Worked
+mod WorkedFused
 pub mod Grown
 pub mod Streams
+pub mod Levels
 pub mod Products
 pub mod Masks
 pub mod Prefixes

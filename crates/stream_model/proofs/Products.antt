@@ -88,6 +88,22 @@ paths-lower t d mask sizes =
     paths-alike t.accesses (asked_at t.accesses (suc d) mask) (λ _. everyone t.accesses) sizes d
     (λ n u c k e. ap (λ (m : List Bool). all_admit m t.accesses u c) (asked_before t.accesses d n mask k))
 
+-- ---- one coordinate more in a product tree
+
+-- above its level it asks all accesses
+pub product-above : (t : TermData) (d : ℕ) (mask : List Bool) (p : List ℕ) → length p < suc d → in_product t (suc d) mask p ≡ in_whole t p
+product-above t d mask p l =
+    grows-same t.accesses (asked_at t.accesses (suc d) mask) (λ _. everyone t.accesses) d
+    (λ n u c k e. ap (λ (m : List Bool). all_admit m t.accesses u c) (asked_before t.accesses d n mask k)) [] p (omega (arith, l))
+
+-- on it a coordinate follows where the term has the prefix and the accesses of the mask admit it
+pub product-longer : (t : TermData) (d : ℕ) (mask : List Bool) (p : List ℕ) (c : ℕ) → length p ≡ d
+    → in_product t (suc d) mask (p ++ c ∷ []) ≡ (in_whole t p && all_admit mask t.accesses p c)
+product-longer t d mask p c e =
+    grows-longer t.accesses (asked_at t.accesses (suc d) mask) p c
+    ∙ ap (λ b. b && all_admit (asked_at t.accesses (suc d) mask (length p)) t.accesses p c) (product-above t d mask p (omega (arith, e)))
+    ∙ ap (λ (m : List Bool). in_whole t p && all_admit m t.accesses p c) (asked_here t.accesses d (length p) mask e)
+
 -- ---- the final mask
 
 -- an access that lacks the loop admits all

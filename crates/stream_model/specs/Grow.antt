@@ -1,5 +1,5 @@
 -- The tree of all prefixes that pass a test: each prefix grows by the coordinates below the size of its level.
-use Rattle.std.specs.Prelude.{ℕ, zero, suc, Bool, List, [], ◌∷◌, ◌++◌, length, slice_index}
+use Rattle.std.specs.Prelude.{ℕ, zero, suc, Bool, cond, List, [], ◌∷◌, ◌++◌, length, ltb, slice_index}
 use Rattle.std.specs.List.{filter}
 use mathlib.Core.List.{map}
 use Rattle.sam_model.specs.Lists.{below}
@@ -21,3 +21,7 @@ paths ok sizes (suc d) = nmap {A = List ℕ} {B = List (List ℕ)} d (longer ok 
 -- the same as fibers
 abbrev pub path_fibers : (List ℕ → Bool) → List ℕ → ℕ → List (Fiber (List ℕ))
 path_fibers ok sizes d = fibers {A = List ℕ} d (paths ok sizes d)
+
+-- prefixes shorter than d by one test, and the others by another
+abbrev pub from_level : ℕ → (List ℕ → Bool) → (List ℕ → Bool) → List ℕ → Bool
+from_level d above last p = cond (ltb (length p) d) (above p) (last p)

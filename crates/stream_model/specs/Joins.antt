@@ -1,10 +1,11 @@
 -- The trees of several terms together: joins, their sides, and the prefixes of a side beneath a join.
-use Rattle.std.specs.Prelude.{ℕ, suc, ◌-◌, ◌%◌, ◌^◌, Bool, cond, List, length, take, ltb, Some, None}
+use Rattle.std.specs.Prelude.{ℕ, suc, ◌-◌, ◌%◌, ◌^◌, Bool, cond, List, take, Some, None}
 use Rattle.std.specs.List.{list_any}
 use mathlib.Core.List.{map}
 use Rattle.stream_tokens.specs.Nest.{Leaf}
 use Rattle.stream_model.specs.declared.labels.Side.{Side}
 use Rattle.stream_model.specs.declared.labels.Side.TheVariants.{Left, Right}
+use Rattle.stream_model.specs.Grow.{from_level}
 use Rattle.stream_model.specs.Terms.{Summand, summand_at}
 use Rattle.stream_model.specs.Trees.{sum_there, in_term, value_term}
 
@@ -38,4 +39,4 @@ side_part ss last Right = let t = (summand_at ss last).term in record { has = in
 
 -- joined prefixes shorter than d, and those of length d that the side has
 abbrev pub in_beside : List Summand → ℕ → Side → ℕ → List ℕ → Bool
-in_beside ss last side d p = cond (ltb (length p) d) ((join_upto ss last).has p) ((side_part ss last side).has p)
+in_beside ss last side d p = from_level d (join_upto ss last).has (side_part ss last side).has p

@@ -11,14 +11,15 @@ use Rattle.stream_tokens.specs.Nest.{Leaf, nmap, Fiber, stream}
 use Rattle.stream_tokens.specs.Shapes.{on_tokens}
 use Rattle.stream_model.specs.declared.labels.Side.{Side}
 use Rattle.stream_model.specs.declared.labels.Tree.{Tree}
-use Rattle.stream_model.specs.declared.labels.Tree.TheVariants.{Root, Product, Reduced, Joined, Beside}
+use Rattle.stream_model.specs.declared.labels.Tree.TheVariants.{Root, Product, Reduced, Joined, Beside, Across, Under, UnderReduced, UnderJoined}
 use Rattle.stream_model.specs.declared.labels.Attr.{Attr}
 use Rattle.stream_model.specs.declared.labels.Attr.TheVariants.{Coordinate, Rank, FactorValue, Partial, Whole, Value, Present, SideValue, Literal}
 use Rattle.stream_model.specs.declared.labels.Label.{Label}
 use Rattle.stream_model.specs.Grow.{paths, path_fibers}
 use Rattle.stream_model.specs.Terms.{TermData, Summand, restricted, access_at, partial_product, whole_product, summands, summand_at, no_term}
-use Rattle.stream_model.specs.Trees.{in_product, in_pruned, value_reduced, reduced_sizes}
+use Rattle.stream_model.specs.Trees.{in_product, in_whole, in_pruned, value_reduced, reduced_sizes}
 use Rattle.stream_model.specs.Joins.{Part, join_upto, side_part, in_beside}
+use Rattle.stream_model.specs.Fused.{shared_levels, in_across, in_under, in_under_reduced, in_under_joined}
 
 -- A tree and what can be told of its prefixes: the test and the sizes that it grows by, its depth, the term that its
 -- factors are of and which prefixes that term has, and the values of the tree and of the sides that it joins.
@@ -95,6 +96,51 @@ beside_shape sizes ss last side depth = record {
   sides = side_part ss last;
 }
 
+-- the terms' trees beneath shared levels, of which there are h; across them a term lacks some prefixes
+abbrev pub across_shape : List Summand → ℕ → TermData → ℕ → Shape
+across_shape ss upto t depth = record {
+  ok = in_across ss upto depth;
+  sizes = loop_sizes t.loops;
+  depth = depth;
+  has = in_whole t;
+  term = t;
+  value = λ _. None;
+  sides = λ _. no_part;
+}
+
+abbrev pub under_shape : ℕ → List Summand → TermData → ℕ → List Bool → Shape
+under_shape h ss t level mask = record {
+  ok = in_under h ss t level mask;
+  sizes = loop_sizes t.loops;
+  depth = level;
+  has = λ _. true;
+  term = t;
+  value = λ _. None;
+  sides = λ _. no_part;
+}
+
+abbrev pub under_reduced_shape : ℕ → List Summand → TermData → ℕ → ℕ → Shape
+under_reduced_shape h ss t gone depth = record {
+  ok = in_under_reduced h ss t gone;
+  sizes = reduced_sizes t gone;
+  depth = depth;
+  has = λ _. true;
+  term = t;
+  value = value_reduced t gone;
+  sides = λ _. no_part;
+}
+
+abbrev pub under_joined_shape : List ℕ → List Summand → ℕ → ℕ → ℕ → Shape
+under_joined_shape sizes ss last prune depth = record {
+  ok = in_under_joined sizes ss last prune;
+  sizes = sizes;
+  depth = depth;
+  has = λ _. true;
+  term = no_term;
+  value = (join_upto ss last).value;
+  sides = λ _. no_part;
+}
+
 abbrev pub term_at : Program → List Entries → ℕ → TermData
 term_at p es n = (summand_at (summands p es) n).term
 
@@ -104,6 +150,11 @@ shape_of p es (Product term level mask) = let t = term_at p es term in product_s
 shape_of p es (Reduced term gone prune depth) = reduced_shape (term_at p es term) gone prune depth
 shape_of p es (Joined last depth) = joined_shape (result_sizes p) (summands p es) last depth
 shape_of p es (Beside last side depth) = beside_shape (result_sizes p) (summands p es) last side depth
+shape_of p es (Across upto term depth) = across_shape (summands p es) upto (term_at p es term) depth
+shape_of p es (Under term level mask) =
+    let t = term_at p es term in under_shape (shared_levels p) (summands p es) t level (bits (length t.accesses) mask)
+shape_of p es (UnderReduced term gone depth) = under_reduced_shape (shared_levels p) (summands p es) (term_at p es term) gone depth
+shape_of p es (UnderJoined last prune depth) = under_joined_shape (result_sizes p) (summands p es) last prune depth
 
 -- ---- what is told of a prefix
 

@@ -2,7 +2,9 @@ pub mod Grow
 pub mod Terms
 pub mod Trees
 pub mod Joins
+pub mod Fused
 pub mod Labels
+pub mod Tellings
 pub mod Masks
 pub mod Reduction
 pub mod Texts

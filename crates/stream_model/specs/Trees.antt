@@ -98,8 +98,11 @@ abbrev pub reduced_sizes : TermData → ℕ → List ℕ
 reduced_sizes t g = kept_sizes (kept_loops g t.loops)
 
 -- a prefix of length f or more stays only where it begins a value
+abbrev pub pruned_from : (List ℕ → Bool) → (List ℕ → Leaf) → List ℕ → ℕ → List ℕ → Bool
+pruned_from has value sizes f p = has p && (ltb (length p) f || begins_value value sizes p)
+
 abbrev pub in_pruned : TermData → ℕ → ℕ → List ℕ → Bool
-in_pruned t g f p = in_reduced t g p && (ltb (length p) f || begins_value (value_reduced t g) (reduced_sizes t g) p)
+in_pruned t g f p = pruned_from (in_reduced t g) (value_reduced t g) (reduced_sizes t g) f p
 
 -- ---- all loops that aren't on the left taken away
 

@@ -39,6 +39,33 @@ pub enum Tree {
         side: Side,
         depth: u8,
     },
+    /// The prefixes that several terms share: those that some term has, and of length `depth` those that some term up to
+    /// `upto` has. What is told is told by the factors of `term`, where it has the prefix.
+    Across {
+        upto: u8,
+        term: u8,
+        depth: u8,
+    },
+    /// The prefixes of a term's loops, down to a level, beneath the shared ones: on the shared levels before it those that
+    /// some term has, on the others those of the term's own tree. The mask is as that of `Product`.
+    Under {
+        term: u8,
+        level: u8,
+        mask: u8,
+    },
+    /// The shared prefixes, and beneath them those of a term without so many reduced variables, innermost first.
+    UnderReduced {
+        term: u8,
+        gone: u8,
+        depth: u8,
+    },
+    /// The shared prefixes, with the sum of the terms up to `last`. Prefixes of length `prune` or more without a value are
+    /// left out; where it is 9, none is.
+    UnderJoined {
+        last: u8,
+        prune: u8,
+        depth: u8,
+    },
 }
 
 /// What is told of each prefix of a tree. Access factors of a term are counted from 0.

@@ -71,6 +71,22 @@ fn append_tree(text: &mut Name, tree: Tree) -> Result<(), AllocError>
             word(text, side_word(side))?;
             number(text, u64::from(depth))
         }
+        Tree::Across { upto, term, depth } => {
+            word(text, "across")?;
+            numbers(text, &[upto, term, depth])
+        }
+        Tree::Under { term, level, mask } => {
+            word(text, "under")?;
+            numbers(text, &[term, level, mask])
+        }
+        Tree::UnderReduced { term, gone, depth } => {
+            word(text, "underreduced")?;
+            numbers(text, &[term, gone, depth])
+        }
+        Tree::UnderJoined { last, prune, depth } => {
+            word(text, "underjoined")?;
+            numbers(text, &[last, prune, depth])
+        }
     }
 }
 

@@ -17,7 +17,7 @@ use Rattle.stream_model.proofs.Grown.{under-same, tokens-suc}
 use Rattle.block_core.specs.Ports.{Streams, AllStreams, first_item, second_leaf}
 use Rattle.block_core.specs.Kind.{Kind}
 use Rattle.block_core.proofs.Given.{Gives}
-use Rattle.custard_lower.proofs.laws.ProductTrees.{last-longer, stream-over}
+use Rattle.stream_model.proofs.Levels.{last-longer, stream-over}
 
 -- ---- the fibers of a tree
 

@@ -25,7 +25,8 @@ use Rattle.stream_model.proofs.Masks.{all_admit-any_of}
 use Rattle.stream_model.proofs.Products.{product-tokens}
 use Rattle.stream_model.proofs.Streams.{stream_at-flat, stream_at-IsStream}
 use Rattle.custard_lower.proofs.laws.ItemStreams.{gives-same, flat-ext}
-use Rattle.custard_lower.proofs.laws.ProductTrees.{product_stream, prefixes, admitted, rank_at, last-longer}
+use Rattle.custard_lower.proofs.laws.ProductTrees.{product_stream, prefixes, admitted, rank_at}
+use Rattle.stream_model.proofs.Levels.{last-longer}
 use Rattle.custard_lower.proofs.laws.MetRanges.{head, ascends-range, meet-ranges}
 use Rattle.custard_lower.proofs.laws.HeadFibers.{level-under, ascends-under, wide-under, over-items, all-streams, both-streams}
 

@@ -22,6 +22,7 @@ use Rattle.stream_model.specs.Masks.{final}
 use Rattle.sam_model.proofs.Lists.{map-ext}
 use Rattle.stream_model.proofs.Grown.{InTree, under-same, paths-InTree}
 use Rattle.stream_model.proofs.Products.{paths-final, product-tokens}
+use Rattle.stream_model.proofs.Levels.{last-longer, stream-over}
 use Rattle.stream_model.proofs.Streams.{stream_at-flat}
 
 -- each access says of every loop of its term whether it has it
@@ -60,19 +61,9 @@ factor_at t f p = value_at (access_at t.accesses f).tensor (restricted (access_a
 
 -- ---- streams
 
--- the last coordinate of a longer prefix
-pub last-longer : (p : List ℕ) (c : ℕ) → last (p ++ c ∷ []) ≡ c
-last-longer [] c = refl
-last-longer (x ∷ []) c = refl
-last-longer (x ∷ y ∷ p) c = last-longer (y ∷ p) c
-
 -- the stream of a product tree
 abbrev pub product_stream : TermData → ℕ → List Bool → Attr → List Token
 product_stream t d mask a = stream_at (product_shape t d mask) a
-
--- a stream over the prefixes of its tree
-pub stream-over : (s : Shape) (a : Attr) → stream_at s a ≡ flat (λ p. leaf (token s a p)) (path_fibers s.ok s.sizes s.depth)
-stream-over s a = stream_at-flat s a ∙ flat-on_tokens leaf (token s a) (path_fibers s.ok s.sizes s.depth)
 
 -- the stream of a final mask, over the prefixes of its level
 pub final-stream : (t : TermData) (d : ℕ) (a : Attr)

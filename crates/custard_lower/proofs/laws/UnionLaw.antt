@@ -30,7 +30,7 @@ use Rattle.stream_model.proofs.Streams.{stream_at-IsStream}
 use Rattle.custard_lower.proofs.laws.ItemStreams.{gives-same}
 use Rattle.custard_lower.proofs.laws.JoinSides.{joined-root}
 use Rattle.custard_lower.proofs.laws.Following.{coordinates-written, followers, followers-beneath}
-use Rattle.custard_lower.proofs.laws.ProductTrees.{last-longer, stream-over}
+use Rattle.stream_model.proofs.Levels.{last-longer, stream-over}
 use Rattle.custard_lower.proofs.laws.MetRanges.{head, ascends-range}
 use Rattle.custard_lower.proofs.laws.UnitedRanges.{unite-ranges}
 use Rattle.custard_lower.proofs.laws.HeadFibers.{level-under, ascends-under, wide-under}

@@ -23,7 +23,8 @@ use Rattle.stream_model.proofs.Grown.{EachToken-always}
 use Rattle.stream_model.proofs.Bridges.{root-rank, partial-more, whole-partial, whole-plain}
 use Rattle.stream_model.proofs.Streams.{stream_at-flat, stream_at-IsStream}
 use Rattle.custard_lower.proofs.laws.ItemStreams.{gives-same, flat-ext, changed}
-use Rattle.custard_lower.proofs.laws.ProductTrees.{product_stream, stream-over}
+use Rattle.custard_lower.proofs.laws.ProductTrees.{product_stream}
+use Rattle.stream_model.proofs.Levels.{stream-over}
 
 -- ---- the root
 

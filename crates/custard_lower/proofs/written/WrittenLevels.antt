@@ -12,7 +12,7 @@ use Rattle.stream_model.specs.Labels.{last}
 use Rattle.sam_model.proofs.Lists.{Each-always, Each-map}
 use Rattle.stream_model.proofs.Grown.{path_fibers-suc}
 use Rattle.stream_model.proofs.Flat.{in_order, in_order-under}
-use Rattle.custard_lower.proofs.laws.ProductTrees.{last-longer}
+use Rattle.stream_model.proofs.Levels.{last-longer}
 use Rattle.custard_lower.proofs.written.WrittenPlaces.{ends_of, level-range, place-above}
 
 -- ---- levels in turn

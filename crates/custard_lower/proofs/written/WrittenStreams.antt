@@ -23,7 +23,7 @@ use Rattle.sam_model.proofs.Lists.{Each-append, map-ext}
 use Rattle.stream_model.proofs.Grown.{InTree, under-same, tokens-suc, paths-InTree}
 use Rattle.stream_model.proofs.Flat.{in_order, in_order-tokens}
 use Rattle.stream_model.proofs.Streams.{stream_at-flat, fibers_of-stream_at}
-use Rattle.custard_lower.proofs.laws.ProductTrees.{last-longer}
+use Rattle.stream_model.proofs.Levels.{last-longer}
 use Rattle.custard_lower.proofs.written.WrittenPlaces.{running_ends, ends_of, running-mapped}
 use Rattle.custard_lower.proofs.written.WrittenLevels.{prefixes_at, level_ends}
 
