@@ -20,7 +20,8 @@ use Rattle.sam_model.specs.Tensors.{Stored, entry_list, stored_as, stored_prefix
 use Rattle.sam_model.proofs.Lists.{Each-flat_map, Each-range, Each-weaker, filter-ext-each, filter-never, filter-none-each}
 use Rattle.sam_model.proofs.Tuples.{tuples-long}
 use Rattle.levels.proofs.Ascending.{Ascending, tuples-ascend}
-use Rattle.levels.proofs.Orders.{same_list-true, smaller-irrefl}
+use Rattle.sam_model.proofs.Orders.{same_list-true}
+use Rattle.levels.proofs.Orders.{smaller-irrefl}
 use Rattle.gen_data.specs.declared.matrices.Matrix.{Matrix}
 use Rattle.gen_data.specs.declared.matrices.Matrix.TheVariants.{B, C}
 use Rattle.gen_data.specs.Workload.{square, entry_of, row_entries, matrix_rows, matrix_entries, workload, workload_entries, MayBeStored}

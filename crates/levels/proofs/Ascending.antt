@@ -12,7 +12,8 @@ use Rattle.sam_model.specs.Children.{next_coordinates, children_under, children_
 use Rattle.sam_base.specs.Each.{Each}
 use Rattle.sam_model.proofs.Lists.{map-ext-each, Each-append, Each-right, Each-mapped, Each-always, Each-weaker, Each-filter, filter-none-each}
 use Rattle.levels.specs.Placed.{list_at}
-use Rattle.levels.proofs.Orders.{eqb-same, ltb-irrefl, same_list-self, same_list-true, smaller-irrefl, smaller-asym}
+use Rattle.sam_model.proofs.Orders.{same_list-self, same_list-true}
+use Rattle.levels.proofs.Orders.{eqb-same, ltb-irrefl, smaller-irrefl, smaller-asym}
 use Rattle.sam_model.proofs.Tuples.{tuples-front-long}
 use Rattle.levels.proofs.Prefixes.{longer, longer-length, prefixes-more}
 

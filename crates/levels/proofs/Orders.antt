@@ -1,7 +1,7 @@
 -- Lists of numbers that are equal, and their order.
 use Rattle.std.proofs.Common.{◌≡◌, ℕ, Bool, true, false, ◌&&◌, ◌||◌, List, [], ◌∷◌, eqb, ltb, refl, arith}
 use Rattle.std.proofs.lemmas.Bool.Decides.{nat_tests}
-use Rattle.sam_model.specs.Lists.{same_list, smaller}
+use Rattle.sam_model.specs.Lists.{smaller}
 
 pub and-left : (a b : Bool) → (a && b) ≡ true → a ≡ true
 and-left true b h = refl
@@ -19,19 +19,6 @@ eqb-true m n h = grind (arith, nat_tests)
 
 pub ltb-irrefl : (n : ℕ) → ltb n n ≡ false
 ltb-irrefl n = grind (arith, nat_tests)
-
-pub same_list-self : (p : List ℕ) → same_list p p ≡ true
-same_list-self [] = refl
-same_list-self (x ∷ p) = rw (eqb-same x) (same_list-self p)
-
-pub same_list-true : (p q : List ℕ) → same_list p q ≡ true → p ≡ q
-same_list-true [] [] h = refl
-same_list-true [] (y ∷ q) h = cc
-same_list-true (x ∷ p) [] h = cc
-same_list-true (x ∷ p) (y ∷ q) h =
-    let e : x ≡ y = eqb-true x y (and-left (eqb x y) (same_list p q) h) in
-    let r : p ≡ q = same_list-true p q (and-right (eqb x y) (same_list p q) h) in
-    cc (e, r)
 
 pub smaller-irrefl : (p : List ℕ) → smaller p p ≡ false
 smaller-irrefl [] = refl

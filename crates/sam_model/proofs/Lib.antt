@@ -1,8 +1,11 @@
 mod AcceptedRows
 mod Rows
 mod Worked
+mod WorkedExpressions
 mod WorkedListing
 pub mod AcceptedLemmas
 pub mod Lists
+pub mod Moduli
+pub mod Orders
 pub mod Stored
 pub mod Tuples

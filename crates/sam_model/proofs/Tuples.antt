@@ -1,5 +1,5 @@
--- Tuples below sizes, one coordinate longer.
-use Rattle.std.specs.Prelude.{◌≡◌, ◌<◌, ◌≤◌, ℕ, zero, suc, List, [], ◌∷◌, ◌++◌, length, take, slice_index, refl}
+-- Tuples below sizes, one coordinate longer; and the tuples of loops.
+use Rattle.std.specs.Prelude.{◌≡◌, ◌<◌, ◌≤◌, ℕ, zero, suc, true, false, List, [], ◌∷◌, ◌++◌, length, take, slice_index, refl}
 use Rattle.std.specs.List.{flat_map}
 use mathlib.Core.List.{map, map-map}
 use Rattle.std.proofs.Common.{arith, sym, ◌∙◌, ap}
@@ -7,6 +7,7 @@ use Rattle.std.proofs.lemmas.List.{append-nil}
 use Rattle.std.proofs.lemmas.List.Folds.{flat_map-map}
 use Rattle.sam_base.specs.Each.{Each}
 use Rattle.sam_model.specs.Lists.{below, tuples}
+use Rattle.sam_model.specs.Denote.{Loop, fill}
 use Rattle.sam_model.proofs.Lists.{Each-always, Each-map, Each-flat_map, Each-weaker, flat_map-ext, flat_map-flat_map, flat_map-single, map-flat_map}
 
 -- each coordinate below s, after p
@@ -47,3 +48,15 @@ length_front (s ∷ sizes) (suc k) h = ap suc (length_front sizes k (omega (arit
 pub tuples-front-long : (sizes : List ℕ) (k : ℕ) → k ≤ length sizes → Each (λ p. length p ≡ k) (tuples (take k sizes))
 tuples-front-long sizes k h =
     Each-weaker (λ p. length p ≡ length (take k sizes)) (λ p. length p ≡ k) (λ p e. e ∙ length_front sizes k h) (tuples (take k sizes)) (tuples-long (take k sizes))
+
+-- ---- the tuples of loops
+
+pub fill-length : (loops : List Loop) (x : List ℕ) → Each (λ u. length u ≡ length loops) (fill loops x)
+fill-length [] x = (refl, tt)
+fill-length ((s, true) ∷ loops) [] = tt
+fill-length ((s, true) ∷ loops) (c ∷ x) =
+    Each-map (λ u. length u ≡ length ((s, true) ∷ loops)) (λ u. c ∷ u) (λ u. length u ≡ length loops) (λ u e. ap suc e) (fill loops x) (fill-length loops x)
+fill-length ((s, false) ∷ loops) x =
+    Each-flat_map (λ (c : ℕ). Unit {0}) (λ u. length u ≡ length ((s, false) ∷ loops)) (λ c. map (λ u. c ∷ u) (fill loops x))
+    (λ c e. Each-map (λ u. length u ≡ length ((s, false) ∷ loops)) (λ u. c ∷ u) (λ u. length u ≡ length loops) (λ u e. ap suc e) (fill loops x) (fill-length loops x))
+    (below s) (Each-always (λ (c : ℕ). Unit {0}) (λ c. tt) (below s))

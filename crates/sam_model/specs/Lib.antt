@@ -5,3 +5,4 @@ pub mod ResultText
 pub mod Listing
 pub mod Children
 pub mod Accepted
+pub mod Expressions

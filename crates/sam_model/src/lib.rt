@@ -2,6 +2,7 @@
 #![tactic(auto)]
 
 mod acceptance;
+mod expressions;
 mod program;
 mod tensors;
 
@@ -9,5 +10,6 @@ pub use acceptance::{
     accepted, are_compressed, are_dimensions, ascending, distinct_names, is_named, is_order,
     is_taken, statement_fits,
 };
+pub use expressions::{Expr, Top};
 pub use program::{Factor, Program, Term};
 pub use tensors::{Entries, Format, Tensor, Written};

@@ -16,7 +16,7 @@ use Rattle.stream_model.proofs.Prefixes.{keep-none}
 use Rattle.stream_model.proofs.Products.{paths-final}
 use Rattle.stream_model.proofs.Reduced.{same-whole, value-full}
 use Rattle.stream_model.proofs.Pruned.{paths-unpruned}
-use Rattle.stream_model.proofs.Moduli.{mod-mul-mod}
+use Rattle.sam_model.proofs.Moduli.{mod-mul-mod}
 
 -- ---- the product tree, as a reduced tree that isn't pruned
 

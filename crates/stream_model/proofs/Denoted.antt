@@ -1,5 +1,5 @@
 -- The values of a program's terms are what its terms denote, where their patterns hold.
-use Rattle.std.specs.Prelude.{◌≡◌, ℕ, ◌+◌, ◌-◌, ◌*◌, ◌%◌, ◌^◌, Bool, true, false, cond, ◌&&◌, List, [], ◌∷◌, length, slice_index, Some, None, suc, refl}
+use Rattle.std.specs.Prelude.{◌≡◌, ℕ, ◌+◌, ◌-◌, ◌*◌, ◌%◌, ◌^◌, Bool, true, false, cond, ◌&&◌, List, [], ◌∷◌, length, slice_index, Some, None, refl}
 use Rattle.std.specs.List.{list_any, list_all}
 use mathlib.Core.List.{map}
 use Rattle.std.proofs.Common.{sym, ◌∙◌, ap, one-mul, mul_assoc, mul_left_comm, mul-zero, zero-mul}
@@ -11,9 +11,9 @@ use Rattle.sam_model.specs.declared.program.Factor.{Factor}
 use Rattle.sam_model.specs.declared.program.Factor.TheVariants.{Access, Literal}
 use Rattle.sam_model.specs.declared.program.Term.{Term}
 use Rattle.sam_model.specs.declared.program.Program.{Program}
-use Rattle.sam_model.specs.Lists.{below, total, is_in}
+use Rattle.sam_model.specs.Lists.{total, is_in}
 use Rattle.sam_model.specs.Tensors.{Stored, is_stored, value_at}
-use Rattle.sam_model.specs.Denote.{loops_of, Loop, loop_list, fill, tensor_at, stored_of, access_place, product, stored_at, tuples_of, term_at, signed_terms, den, pat}
+use Rattle.sam_model.specs.Denote.{loops_of, loop_list, fill, tensor_at, stored_of, access_place, product, stored_at, tuples_of, term_at, signed_terms, den, pat}
 use Rattle.sam_model.specs.Accepted.{term_fits, accepted}
 use Rattle.stream_tokens.specs.Nest.{Leaf}
 use Rattle.stream_tokens.specs.Shapes.{Each}
@@ -21,24 +21,13 @@ use Rattle.stream_tokens.proofs.Algebra.{Each-imp}
 use Rattle.stream_model.specs.Terms.{keep, mask_of, restricted, product_of, whole_product, operands_of, literals_of, term_data, further_summand, summands_of, summands}
 use Rattle.stream_model.specs.Trees.{all_stored, value_term, sum_there}
 use Rattle.stream_model.specs.Joins.{negated, signed, join_of}
-use Rattle.sam_model.proofs.Lists.{Each-map, Each-flat_map, Each-always, list_any-ext-each}
+use Rattle.sam_model.proofs.Lists.{list_any-ext-each}
+use Rattle.sam_model.proofs.Moduli.{mul-mod-mod, mod-mul-mod, negative, total-ext-each, total-mod, total-times}
 use Rattle.sam_model.proofs.Stored.{value-unstored}
+use Rattle.sam_model.proofs.Tuples.{fill-length}
 use Rattle.stream_model.proofs.Sums.{plus-none, where_passes, nothing-passes, sum-passes}
 use Rattle.stream_model.proofs.TermLaw.{term-law}
-use Rattle.stream_model.proofs.Moduli.{mul-mod-mod, mod-mul-mod, negative, total-ext-each, total-mod, total-times}
 use Rattle.stream_model.proofs.Places.{AllPlaced, accepted-terms, term-placed}
-
--- ---- the tuples of a term
-
-pub fill-length : (loops : List Loop) (x : List ℕ) → Each (λ u. length u ≡ length loops) (fill loops x)
-fill-length [] x = (refl, tt)
-fill-length ((s, true) ∷ loops) [] = tt
-fill-length ((s, true) ∷ loops) (c ∷ x) =
-    Each-map (λ u. length u ≡ length ((s, true) ∷ loops)) (λ u. c ∷ u) (λ u. length u ≡ length loops) (λ u e. ap suc e) (fill loops x) (fill-length loops x)
-fill-length ((s, false) ∷ loops) x =
-    Each-flat_map (λ (c : ℕ). Unit {0}) (λ u. length u ≡ length ((s, false) ∷ loops)) (λ c. map (λ u. c ∷ u) (fill loops x))
-    (λ c e. Each-map (λ u. length u ≡ length ((s, false) ∷ loops)) (λ u. c ∷ u) (λ u. length u ≡ length loops) (λ u e. ap suc e) (fill loops x) (fill-length loops x))
-    (below s) (Each-always (λ (c : ℕ). Unit {0}) (λ c. tt) (below s))
 
 -- ---- a product of factors
 

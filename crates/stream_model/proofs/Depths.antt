@@ -1,14 +1,12 @@
 -- How deep the trees of an accepted program are, and how many loops of the left come after one that is reduced.
-use Rattle.std.specs.Prelude.{◌≡◌, ◌⊎◌, ◌<◌, ◌≤◌, ℕ, zero, suc, ◌+◌, Bool, true, false, cond, ◌&&◌, ◌||◌, ◌==◌, List, [], ◌∷◌, ◌++◌, length, slice_index, nat_le, nat_lt, eqb, count_by, refl}
+use Rattle.std.specs.Prelude.{◌≡◌, ◌⊎◌, ◌<◌, ◌≤◌, ℕ, zero, suc, ◌+◌, Bool, true, false, cond, ◌&&◌, ◌||◌, ◌==◌, List, [], ◌∷◌, ◌++◌, length, slice_index, nat_le, nat_lt, count_by, refl}
 use Rattle.std.specs.List.{filter, list_any, list_all, range_with_len}
-use Rattle.std.specs.Cmp.{IsEquivalence}
 use mathlib.Core.List.{map}
 use Rattle.std.proofs.Common.{arith, sym, ◌∙◌, ap, subst, inl, inr}
-use Rattle.std.proofs.lemmas.Bool.{and_parts, and_from, or_cases, leb-true, lt-ltb, eqb-true, cases_lt, both_ways}
-use Rattle.std.proofs.lemmas.Bool.Decides.{nat_tests}
+use Rattle.std.proofs.lemmas.Bool.{and_parts, and_from, or_cases, leb-true, lt-ltb, cases_lt, both_ways}
 use Rattle.std.proofs.lemmas.List.{length-map}
 use Rattle.std.proofs.lemmas.List.Sums.{length-filter}
-use Rattle.std.proofs.lemmas.Map.Made.{length-le_from_is_member, is_member-filter}
+use Rattle.std.proofs.lemmas.Map.Made.{length-le_from_is_member}
 use Rattle.sam_model.specs.declared.program.Factor.{Factor}
 use Rattle.sam_model.specs.declared.program.Term.{Term}
 use Rattle.sam_model.specs.declared.program.Program.{Program}
@@ -18,8 +16,8 @@ use Rattle.sam_model.specs.Accepted.{is_access, term_has, factor_fits, reduces, 
 use Rattle.stream_tokens.specs.Shapes.{Each}
 use Rattle.stream_model.specs.Trees.{kept_sizes}
 use Rattle.sam_model.proofs.Lists.{filter-range}
+use Rattle.sam_model.proofs.Orders.{number_equality, list_all-member, is_in-filter, Rises, Rises-weaker, Rises-range, rises-distinct, not-above}
 use Rattle.stream_model.proofs.Places.{accepted-statement, kept-sizes-map}
-use Rattle.stream_model.proofs.Orders.{Rises, Rises-weaker, Rises-range, rises-distinct, not-above}
 
 -- ---- the number of loops
 
@@ -85,38 +83,14 @@ each_at : (Q : ℕ → Type 0) (xs : List ℕ) (v : ℕ) (ys : List ℕ) → Eac
 each_at Q [] v ys e = e.0
 each_at Q (x ∷ xs) v ys e = each_at Q xs v ys e.1
 
-member_passes : (test : ℕ → Bool) (xs : List ℕ) (v : ℕ) → list_all test xs ≡ true → is_in v xs ≡ true → test v ≡ true
-member_passes test [] v h k = absurd (cc)
-member_passes test (x ∷ xs) v h k = by_case (or_cases (eqb v x) (is_in v xs) k) (member_passes test xs v (and_parts (test x) (list_all test xs) h).1)
-  where
-    by_case : (eqb v x ≡ true) ⊎ (is_in v xs ≡ true) → (is_in v xs ≡ true → test v ≡ true) → test v ≡ true
-    by_case (inl e) r = ap test (eqb-true v x e) ∙ (and_parts (test x) (list_all test xs) h).0
-    by_case (inr e) r = r e
-
 reduces_at : (left : List ℕ) (factors : List Factor) (v : ℕ) → list_all (factor_reduces left) factors ≡ true → list_any (has_var v) factors ≡ true → reduces left v ≡ true
 reduces_at left [] v h k = absurd (cc)
 reduces_at left (f ∷ factors) v h k =
     by_case (or_cases (has_var v f) (list_any (has_var v) factors) k) (reduces_at left factors v (and_parts (factor_reduces left f) (list_all (factor_reduces left) factors) h).1)
   where
     by_case : (has_var v f ≡ true) ⊎ (list_any (has_var v) factors ≡ true) → (list_any (has_var v) factors ≡ true → reduces left v ≡ true) → reduces left v ≡ true
-    by_case (inl e) r = member_passes (reduces left) (vars_of f) v (and_parts (factor_reduces left f) (list_all (factor_reduces left) factors) h).0 e
+    by_case (inl e) r = list_all-member (reduces left) (vars_of f) v (and_parts (factor_reduces left f) (list_all (factor_reduces left) factors) h).0 e
     by_case (inr e) r = r e
-
-number_equality : IsEquivalence eqb
-number_equality = record { refl = same; symm = turned; congr = moved }
-  where
-    same : (x : ℕ) → eqb x x ≡ true
-    same x = grind (arith, nat_tests)
-
-    turned : (x y : ℕ) → eqb x y ≡ eqb y x
-    turned x y = grind (arith, nat_tests)
-
-    moved : (x y z : ℕ) → eqb x y ≡ true → eqb x z ≡ eqb y z
-    moved x y z h = ap (λ (w : ℕ). eqb w z) (eqb-true x y h)
-
--- what is among those that pass
-pub is_in-filter : (test : ℕ → Bool) (q : ℕ) (xs : List ℕ) → is_in q (filter test xs) ≡ (is_in q xs && test q)
-is_in-filter test q xs = is_member-filter number_equality test q (λ x e. ap test (eqb-true q x e)) xs
 
 rises_filter : (test : ℕ → Bool) (a : ℕ) (xs : List ℕ) → Rises a xs → Rises a (filter test xs)
 rises_filter test a [] r = tt

@@ -12,8 +12,6 @@ pub mod Sums
 pub mod TermLaw
 pub mod Reduced
 pub mod Pruned
-pub mod Orders
-pub mod Moduli
 pub mod Places
 pub mod Denoted
 pub mod Bridges

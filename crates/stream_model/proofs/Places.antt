@@ -20,8 +20,18 @@ use Rattle.stream_model.specs.Trees.{free_count, kept_sizes, reduced_sizes}
 use Rattle.stream_model.specs.Labels.{loop_sizes, result_sizes}
 use Rattle.stream_model.specs.Masks.{AllFit}
 use Rattle.sam_model.proofs.Lists.{filter-ext}
+use Rattle.sam_model.proofs.Orders.{is_in-items, items_at-map, order-in-range, Rises, rises, Rises-range, filter-members, coordinate-map}
 use Rattle.stream_model.proofs.TermLaw.{kept-none}
-use Rattle.stream_model.proofs.Orders.{is_in-items, items_at-map, order-in-range, Rises, rises, Rises-range, filter-members, keep-map, coordinate-map}
+
+-- what a mask keeps
+keep-map : (mask : ℕ → Bool) (g : ℕ → ℕ) (vs : List ℕ) → keep (map mask vs) (map g vs) ≡ map g (filter mask vs)
+keep-map mask g [] = refl
+keep-map mask g (v ∷ vs) = by_case (mask v) (keep-map mask g vs)
+  where
+    by_case : (b : Bool) → keep (map mask vs) (map g vs) ≡ map g (filter mask vs)
+        → cond b (g v ∷ keep (map mask vs) (map g vs)) (keep (map mask vs) (map g vs)) ≡ map g (cond b (v ∷ filter mask vs) (filter mask vs))
+    by_case true r = ap (λ (xs : List ℕ). g v ∷ xs) r
+    by_case false r = r
 
 -- ---- what is accepted
 

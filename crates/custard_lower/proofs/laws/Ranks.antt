@@ -11,7 +11,8 @@ use Rattle.std.proofs.lemmas.Map.Views.{any-filter_same}
 use Rattle.sam_model.specs.Lists.{below, tuples, same_list, smaller, within}
 use Rattle.sam_model.specs.Tensors.{Stored, is_stored, stored_prefixes, rank_of}
 use Rattle.sam_base.specs.Each.{Each}
-use Rattle.levels.proofs.Orders.{eqb-same, same_list-true}
+use Rattle.sam_model.proofs.Orders.{same_list-true}
+use Rattle.levels.proofs.Orders.{eqb-same}
 use Rattle.levels.proofs.Ascending.{Ascending, prefixes-ascend, rank_in, rank-at}
 use Rattle.sam_model.proofs.Lists.{list_any-ext, list_any-map, list_any-flat_map}
 

@@ -1,35 +1,21 @@
 -- The accesses that have a loop, and those that lack it.
-use Rattle.std.specs.Prelude.{◌≡◌, ◌<◌, ◌≤◌, ◌⊎◌, ℕ, zero, suc, ◌+◌, Bool, true, false, ◌&&◌, not, List, [], ◌∷◌, length, get_or, refl}
-use Rattle.std.specs.List.{filter, range_with_len}
-use Rattle.std.proofs.Common.{arith, sym, ◌∙◌, ap, subst, inl, inr}
-use Rattle.std.proofs.lemmas.Bool.{cases_eq, eq-eqb, ne_eqb}
+use Rattle.std.specs.Prelude.{◌≡◌, ◌<◌, ◌≤◌, ℕ, suc, Bool, true, false, not, List, [], ◌∷◌, length, get_or, refl}
+use Rattle.std.proofs.Common.{arith, sym, ◌∙◌, ap, subst}
 use Rattle.sam_model.specs.Children.{Ranked}
-use Rattle.sam_model.specs.Lists.{is_in, below}
+use Rattle.sam_model.specs.Lists.{is_in}
 use Rattle.stream_tokens.specs.Shapes.{Each}
 use Rattle.stream_model.specs.Terms.{TermData, access_at}
 use Rattle.stream_model.specs.Labels.{bits}
 use Rattle.stream_model.specs.Masks.{final}
 use Rattle.sam_model.proofs.Lists.{filter-range}
+use Rattle.sam_model.proofs.Orders.{is_in-tested}
 use Rattle.stream_model.proofs.Numbers.{AllBelow}
-use Rattle.stream_model.proofs.Depths.{filter-short, is_in-filter}
+use Rattle.stream_model.proofs.Depths.{filter-short}
 use Rattle.custard_lower.specs.declared.plans.Plan.{Plan}
 use Rattle.custard_lower.specs.Masks.{factors_mask}
 use Rattle.custard_lower.specs.Plans.{has_loop, asked, spared}
 use Rattle.custard_lower.proofs.term.Matching.{Matches}
 use Rattle.custard_lower.proofs.term.MaskNumbers.{mask-final}
-
-in_range : (n a q : ℕ) → a ≤ q → q < a + n → is_in q (range_with_len a n) ≡ true
-in_range zero a q low high = absurd (omega (arith, low, high))
-in_range (suc n) a q low high = by_case (cases_eq q a) (λ ne. in_range n (a + 1) q (omega (arith, low, ne)) (omega (arith, high)))
-  where
-    by_case : (q ≡ a) ⊎ (q ≡ a → ⊥) → ((q ≡ a → ⊥) → is_in q (range_with_len (a + 1) n) ≡ true)
-        → is_in q (range_with_len a (suc n)) ≡ true
-    by_case (inl e) later = rw (eq-eqb q a e) refl
-    by_case (inr ne) later = rw (ne_eqb q a ne) (later ne)
-
--- those below n that pass a test are just those that pass it
-in_tested : (test : ℕ → Bool) (n g : ℕ) → g < n → is_in g (filter test (below n)) ≡ test g
-in_tested test n g l = is_in-filter test g (below n) ∙ ap (λ b. b && test g) (in_range n 0 g (omega arith) (omega (arith, l)))
 
 module _ (storages : List Ranked) (t : TermData) (plan : Plan) (m : Matches storages t plan) where
   -- these accesses have the loop after d others, or lack it
@@ -69,12 +55,12 @@ module _ (storages : List Ranked) (t : TermData) (plan : Plan) (m : Matches stor
 
   -- a factor is asked where it has the loop
   pub asked-in : (d g : ℕ) → g < length t.accesses → is_in g (asked plan d) ≡ get_or (access_at t.accesses g).has d false
-  asked-in d g l = in_tested (has_loop plan d) (length plan.accesses) g (subst (λ (n : ℕ). g < n) (sym m.number) l) ∙ has_is d g
+  asked-in d g l = is_in-tested (has_loop plan d) (length plan.accesses) g (subst (λ (n : ℕ). g < n) (sym m.number) l) ∙ has_is d g
 
   -- and is spared where it lacks it
   pub spared-in : (d g : ℕ) → g < length t.accesses → is_in g (spared plan d) ≡ not (get_or (access_at t.accesses g).has d false)
   spared-in d g l =
-      in_tested (λ f. not (has_loop plan d f)) (length plan.accesses) g (subst (λ (n : ℕ). g < n) (sym m.number) l)
+      is_in-tested (λ f. not (has_loop plan d f)) (length plan.accesses) g (subst (λ (n : ℕ). g < n) (sym m.number) l)
       ∙ ap not (has_is d g)
 
   -- at most eight are asked

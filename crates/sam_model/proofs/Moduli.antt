@@ -2,8 +2,8 @@
 use Rattle.std.specs.Prelude.{◌≡◌, ◌<◌, ◌≤◌, ℕ, zero, suc, ◌+◌, ◌-◌, ◌*◌, ◌/◌, ◌%◌, List, [], ◌∷◌, refl}
 use Rattle.std.proofs.Common.{arith, sym, ◌∙◌, ap, mul-suc, suc-mul, mul-add, mul_left_comm, mul-zero, mod-lt}
 use Rattle.std.proofs.Math.Nat.{mod-add-mod, add-mod-mod, mod-add-div, add-mul-mod_self_left, mul-add-mod_self_left, mul_comm}
+use Rattle.sam_base.specs.Each.{Each}
 use Rattle.sam_model.specs.Lists.{total}
-use Rattle.stream_tokens.specs.Shapes.{Each}
 
 pub mul-mod-mod : (m a b : ℕ) → (a * (b % m)) % m ≡ (a * b) % m
 mul-mod-mod m a b =

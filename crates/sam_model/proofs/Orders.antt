@@ -1,17 +1,74 @@
--- Orders have every mode, and ascending variables are found among the loops by a mask.
+-- Lists of variables and modes: equal ones, members, orders and ascending ones.
 use Rattle.std.specs.Prelude.{◌≡◌, ◌⊎◌, ◌<◌, ◌≤◌, ℕ, zero, suc, ◌+◌, Bool, true, false, cond, not, ◌&&◌, ◌||◌, ◌==◌, List, [], ◌∷◌, length, slice_index, nat_lt, eqb, refl}
+use Rattle.std.specs.Cmp.{IsEquivalence}
 use Rattle.std.specs.List.{filter, list_any, list_all, range_with_len, IsDistinct, AllByRecursion}
 use mathlib.Core.List.{map}
 use Rattle.std.proofs.Common.{arith, sym, ◌∙◌, ap, inl, inr}
-use Rattle.std.proofs.lemmas.Bool.{and_parts, or_parts, or_cases, not-true, ltb-true, eqb-true, eq-eqb}
+use Rattle.std.proofs.lemmas.Bool.{and_parts, cases_eq, ne_eqb, or_parts, or_cases, not-true, ltb-true, eqb-true, eq-eqb}
 use Rattle.std.proofs.lemmas.Bool.Decides.{nat_tests}
 use Rattle.std.proofs.lemmas.List.{get_or-map}
+use Rattle.std.proofs.lemmas.Map.Made.{is_member-filter}
 use Rattle.std.proofs.lemmas.Map.Steps.{length-le_from_distinct_below}
-use Rattle.sam_model.specs.Lists.{items_at, is_in, coordinate}
+use Rattle.sam_base.specs.Each.{Each}
+use Rattle.sam_model.specs.Lists.{below, items_at, is_in, same_list, coordinate}
 use Rattle.sam_model.specs.Accepted.{distinct, is_order, ascending, ascending_from}
-use Rattle.stream_tokens.specs.Shapes.{Each}
-use Rattle.stream_model.specs.Terms.{keep}
 use Rattle.sam_model.proofs.Lists.{same-test, map-ext-each, filter-ext-each, list_any-map, list_any-mono}
+
+-- ---- lists that are equal
+
+pub same_list-self : (p : List ℕ) → same_list p p ≡ true
+same_list-self [] = refl
+same_list-self (x ∷ p) = rw (eq-eqb x x refl) (same_list-self p)
+
+pub same_list-true : (p q : List ℕ) → same_list p q ≡ true → p ≡ q
+same_list-true [] [] h = refl
+same_list-true [] (y ∷ q) h = cc
+same_list-true (x ∷ p) [] h = cc
+same_list-true (x ∷ p) (y ∷ q) h =
+    let e = and_parts (eqb x y) (same_list p q) h in
+    let same : x ≡ y = eqb-true x y e.0 in
+    let rest : p ≡ q = same_list-true p q e.1 in
+    cc (same, rest)
+
+-- ---- members
+
+pub number_equality : IsEquivalence eqb
+number_equality = record { refl = same; symm = turned; congr = moved }
+  where
+    same : (x : ℕ) → eqb x x ≡ true
+    same x = grind (arith, nat_tests)
+
+    turned : (x y : ℕ) → eqb x y ≡ eqb y x
+    turned x y = grind (arith, nat_tests)
+
+    moved : (x y z : ℕ) → eqb x y ≡ true → eqb x z ≡ eqb y z
+    moved x y z h = ap (λ (w : ℕ). eqb w z) (eqb-true x y h)
+
+-- a test that all pass is passed by each
+pub list_all-member : (test : ℕ → Bool) (xs : List ℕ) (v : ℕ) → list_all test xs ≡ true → is_in v xs ≡ true → test v ≡ true
+list_all-member test [] v h k = absurd (cc)
+list_all-member test (x ∷ xs) v h k = by_case (or_cases (eqb v x) (is_in v xs) k) (list_all-member test xs v (and_parts (test x) (list_all test xs) h).1)
+  where
+    by_case : (eqb v x ≡ true) ⊎ (is_in v xs ≡ true) → (is_in v xs ≡ true → test v ≡ true) → test v ≡ true
+    by_case (inl e) r = ap test (eqb-true v x e) ∙ (and_parts (test x) (list_all test xs) h).0
+    by_case (inr e) r = r e
+
+-- what is among those that pass
+pub is_in-filter : (test : ℕ → Bool) (q : ℕ) (xs : List ℕ) → is_in q (filter test xs) ≡ (is_in q xs && test q)
+is_in-filter test q xs = is_member-filter number_equality test q (λ x e. ap test (eqb-true q x e)) xs
+
+pub is_in-range : (n a q : ℕ) → a ≤ q → q < a + n → is_in q (range_with_len a n) ≡ true
+is_in-range zero a q low high = absurd (omega (arith, low, high))
+is_in-range (suc n) a q low high = by_case (cases_eq q a) (λ ne. is_in-range n (a + 1) q (omega (arith, low, ne)) (omega (arith, high)))
+  where
+    by_case : (q ≡ a) ⊎ (q ≡ a → ⊥) → ((q ≡ a → ⊥) → is_in q (range_with_len (a + 1) n) ≡ true)
+        → is_in q (range_with_len a (suc n)) ≡ true
+    by_case (inl e) later = rw (eq-eqb q a e) refl
+    by_case (inr ne) later = rw (ne_eqb q a ne) (later ne)
+
+-- those below n that pass a test are just those that pass it
+pub is_in-tested : (test : ℕ → Bool) (n g : ℕ) → g < n → is_in g (filter test (below n)) ≡ test g
+is_in-tested test n g l = is_in-filter test g (below n) ∙ ap (λ b. b && test g) (is_in-range n 0 g (omega arith) (omega (arith, l)))
 
 -- ---- an order has every mode
 
@@ -24,7 +81,7 @@ unfolding IsDistinct
 all_apart [] h = tt
 all_apart (x ∷ xs) h = let e = and_parts (not (is_in x xs)) (distinct xs) h in (apart x xs (not-true (is_in x xs) e.0), all_apart xs e.1)
 
-is_below : (n q : ℕ) (xs : List ℕ) → list_all (λ m. nat_lt m n) xs ≡ true → is_in q xs ≡ true → q < n
+pub is_below : (n q : ℕ) (xs : List ℕ) → list_all (λ m. nat_lt m n) xs ≡ true → is_in q xs ≡ true → q < n
 is_below n q [] h k = absurd (cc)
 is_below n q (x ∷ xs) h k =
     by_case (or_cases (eqb q x) (is_in q xs) k) (λ e. is_below n q xs (and_parts (nat_lt x n) (list_all (λ m. nat_lt m n) xs) h).1 e)
@@ -229,17 +286,6 @@ filter-members test a (suc n) m (w ∷ ws) e r h =
       where
         above : (a w : ℕ) → eqb a w ≡ false → a ≤ w → a < w
         above a w c l = grind (arith, nat_tests)
-
--- ---- tuples
-
-pub keep-map : (mask : ℕ → Bool) (g : ℕ → ℕ) (vs : List ℕ) → keep (map mask vs) (map g vs) ≡ map g (filter mask vs)
-keep-map mask g [] = refl
-keep-map mask g (v ∷ vs) = by_case (mask v) (keep-map mask g vs)
-  where
-    by_case : (b : Bool) → keep (map mask vs) (map g vs) ≡ map g (filter mask vs)
-        → cond b (g v ∷ keep (map mask vs) (map g vs)) (keep (map mask vs) (map g vs)) ≡ map g (cond b (v ∷ filter mask vs) (filter mask vs))
-    by_case true r = ap (λ (xs : List ℕ). g v ∷ xs) r
-    by_case false r = r
 
 -- a tuple has the coordinates of its own variables
 pub coordinate-map : (a : ℕ) (vs u : List ℕ) → Rises a vs → length u ≡ length vs → map (coordinate vs u) vs ≡ u
