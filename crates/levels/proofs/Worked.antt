@@ -3,6 +3,7 @@ use Rattle.std.proofs.Common.{◌≡◌, [], ◌∷◌, refl}
 use Rattle.sam_model.specs.declared.tensors.Format.TheVariants.{Dense, Compressed}
 use Rattle.sam_model.specs.Tensors.{Stored, stored_prefixes}
 use Rattle.sam_model.specs.Children.{children_of, values_of, ranked}
+use Rattle.levels.specs.Rows.{outer}
 
 -- a 2 x 2 tensor with a dense level after a compressed one
 trailing : Stored
@@ -51,3 +52,7 @@ empty = record { formats = Dense ∷ Compressed ∷ []; sizes = 2 ∷ 2 ∷ []; 
 empty-ranked : ranked empty ≡ record { counts = 1 ∷ 2 ∷ 0 ∷ []; children = (((0, 0) ∷ (1, 1) ∷ []) ∷ []) ∷ ([] ∷ [] ∷ []) ∷ []; values = [] }
 unfolding empty
 empty-ranked = refl
+
+-- two coordinates as one number
+outer-row : outer (1 ∷ 5 ∷ 7 ∷ []) ≡ 4294967301
+outer-row = refl
