@@ -33,16 +33,16 @@ impl Matrix {
 
 /// Adds the entries of a row.
 fn add_row(
-    coords: &mut Nums,
-    values: &mut Nums,
+    coords: &mut Vec<u64>,
+    values: &mut Vec<u64>,
     matrix: Matrix,
     n: u64,
     row: u64,
 ) -> Result<(), AllocError>
     requires rows { n ≤ LARGE_MOST }
     requires row { row < n }
-    ensures coords { OnOk result (coords.new ≡ coords.old ++ flat_map (λ entry. entry.0) (row_entries matrix n row)) }
-    ensures values { OnOk result (values.new ≡ values.old ++ map (λ entry. entry.1) (row_entries matrix n row)) }
+    ensures coords { OnOk result (coords.new.items ≡ coords.old.items ++ flat_map (λ entry. entry.0) (row_entries matrix n row)) }
+    ensures values { OnOk result (values.new.items ≡ values.old.items ++ map (λ entry. entry.1) (row_entries matrix n row)) }
 {
     for s in 0..4 {
         let (column, value) = matrix.entry(n, row, s);
@@ -58,14 +58,15 @@ pub fn entries(alloc: Global, matrix: Matrix, n: u64) -> Result<Entries, AllocEr
     requires { n ≤ LARGE_MOST }
     ensures { IfOk result (λ entries. entries ≡ matrix_entries matrix n) }
 {
-    let mut coords = Nums::new(alloc);
-    let mut values = Nums::new(alloc);
+    let count = 4 * n as usize;
+    let mut coords = Vec::with_capacity(alloc, 2 * count)?;
+    let mut values = Vec::with_capacity(alloc, count)?;
     for row in 0..n {
         add_row(&mut coords, &mut values, matrix, n, row)?;
     }
     Ok(Entries {
         arity: 2,
-        coords,
-        values,
+        coords: Nums::from_vec(coords),
+        values: Nums::from_vec(values),
     })
 }

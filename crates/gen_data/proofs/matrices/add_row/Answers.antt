@@ -10,10 +10,10 @@ loop-s-preserved c =
     let value = c.entry-column.result.1 in
     record {
       coords =
-          c.in_ok-push-2.ensures.ok
-          ∙ ap (λ (l : List ℕ). l ++ column ∷ []) c.in_ok-push.ensures.ok
-          ∙ coords_more f c.loop-s.s c.args.row column value c.entry-column.ensures c.loop-s.coords c.args.coords.now c.loop-s.invariant.coords;
+          c.in_ok-push-2.ensures.items
+          ∙ ap (λ (l : List ℕ). l ++ column ∷ []) c.in_ok-push.ensures.items
+          ∙ coords_more f c.loop-s.s c.args.row column value c.entry-column.ensures c.loop-s.coords.items c.args.coords.now.items c.loop-s.invariant.coords;
       values =
-          c.in_ok-push-3.ensures.ok
-          ∙ values_more f c.loop-s.s c.args.row column value c.entry-column.ensures c.loop-s.values c.args.values.now c.loop-s.invariant.values;
+          c.in_ok-push-3.ensures.items
+          ∙ values_more f c.loop-s.s c.args.row column value c.entry-column.ensures c.loop-s.values.items c.args.values.now.items c.loop-s.invariant.values;
     }

@@ -6,6 +6,6 @@ use Rattle.gen_data.proofs.matrices.add_row.Given as goal
 
 abbrev pub invariant-loop-s : goal.invariant-loop-s
 invariant-loop-s l = record {
-  coords : l.coords ≡ l.fn.coords ++ flat_map (λ entry. entry.0) (map (entry_of l.matrix l.n l.row) (below l.s));
-  values : l.values ≡ l.fn.values ++ map (λ entry. entry.1) (map (entry_of l.matrix l.n l.row) (below l.s));
+  coords : l.coords.items ≡ l.fn.coords.items ++ flat_map (λ entry. entry.0) (map (entry_of l.matrix l.n l.row) (below l.s));
+  values : l.values.items ≡ l.fn.values.items ++ map (λ entry. entry.1) (map (entry_of l.matrix l.n l.row) (below l.s));
 }

@@ -7,6 +7,6 @@ pub loop-row-preserved : goal.loop-row-preserved
 loop-row-preserved c =
     let rows = row_entries c.args.matrix c.args.n in
     record {
-      coords = c.in_ok-add_row.ensures.coords ∙ all_coords_more rows c.loop-row.row c.loop-row.coords c.loop-row.invariant.coords;
-      values = c.in_ok-add_row.ensures.values ∙ all_values_more rows c.loop-row.row c.loop-row.values c.loop-row.invariant.values;
+      coords = c.in_ok-add_row.ensures.coords ∙ all_coords_more rows c.loop-row.row c.loop-row.coords.items c.loop-row.invariant.coords;
+      values = c.in_ok-add_row.ensures.values ∙ all_values_more rows c.loop-row.row c.loop-row.values.items c.loop-row.invariant.values;
     }

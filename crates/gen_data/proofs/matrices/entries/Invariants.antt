@@ -6,6 +6,6 @@ use Rattle.gen_data.proofs.matrices.entries.Given as goal
 
 abbrev pub invariant-loop-row : goal.invariant-loop-row
 invariant-loop-row l = record {
-  coords : l.coords ≡ flat_map (λ entry. entry.0) (flat_map (row_entries l.matrix l.n) (below l.row));
-  values : l.values ≡ map (λ entry. entry.1) (flat_map (row_entries l.matrix l.n) (below l.row));
+  coords : l.coords.items ≡ flat_map (λ entry. entry.0) (flat_map (row_entries l.matrix l.n) (below l.row));
+  values : l.values.items ≡ map (λ entry. entry.1) (flat_map (row_entries l.matrix l.n) (below l.row));
 }
