@@ -10,3 +10,4 @@ pub mod Bursting
 pub mod AllMoves
 pub mod EndsView
 pub mod OneBlock
+pub mod Queues

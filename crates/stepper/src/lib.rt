@@ -4,6 +4,7 @@
 mod at;
 mod ends;
 mod laws;
+mod line;
 mod machine;
 mod queue;
 mod routes;

@@ -5,29 +5,36 @@ ghost use Rattle.stream_tokens.specs.declared.Token.{Token as TheToken};
 ghost use Rattle.plays.specs.Net.{has_room};
 ghost use Rattle.plays.specs.Held.{Queued};
 
+use crate::line::Line;
 use sam_base::Items;
 use std::alloc::{AllocError, Global};
 use std::collections::VecDeque;
 use std::marker::Model;
 use stream_tokens::Token;
 
-/// A queue of tokens, which may have a limit. The memory of one that has is taken when it is made.
+/// Tokens that wait.
+#[derive(Drop)]
+enum Tokens {
+    /// At most so many may wait. Their memory is taken when the queue is made.
+    Bounded(VecDeque<Token>, u32),
+    Unbounded(Line),
+}
+
+/// A queue of tokens, which may have a limit.
 #[derive(Drop)]
 pub(crate) struct Queue {
-    tokens: VecDeque<Token>,
-    room: Option<u32>,
+    tokens: Tokens,
 }
 
 impl Model for Queue {
-    ghost use Rattle.std.specs.Prelude.{◌≡◌, ◌≤◌, ℕ, Some};
-    ghost use Rattle.std.specs.VecDeque.{deque_capacity};
     ghost use Rattle.plays.specs.Held.{Queued};
+    ghost use Rattle.stepper.specs.Queues.{queued, HasItsMemory};
 
     ghost Value = { Queued };
 
-    ghost view = { λ q. record { tokens = q.tokens.items; room = q.room } };
+    ghost view = { λ q. queued q.tokens };
 
-    ghost invariant = { λ q. (n : ℕ) → q.room ≡ Some n → n ≤ deque_capacity q.tokens };
+    ghost invariant = { λ q. HasItsMemory q.tokens };
 }
 
 impl Queue {
@@ -37,10 +44,10 @@ impl Queue {
         ensures room { IfOk result (λ q. q.room ≡ room) }
     {
         let tokens = match room {
-            Some(most) => VecDeque::with_capacity(alloc, most as usize)?,
-            None => VecDeque::new(alloc),
+            Some(most) => Tokens::Bounded(VecDeque::with_capacity(alloc, most as usize)?, most),
+            None => Tokens::Unbounded(Line::new(alloc)),
         };
-        Ok(Queue { tokens, room })
+        Ok(Queue { tokens })
     }
 
     /// Whether there is no room for another token.
@@ -48,9 +55,9 @@ impl Queue {
     pub(crate) fn is_full(&self) -> bool
         ensures { result ≡ not (has_room self.now.room (length self.now.tokens)) }
     {
-        match self.room {
-            Some(most) => self.tokens.len() >= most as usize,
-            None => false,
+        match &self.tokens {
+            Tokens::Bounded(tokens, most) => tokens.len() >= *most as usize,
+            Tokens::Unbounded(_) => false,
         }
     }
 
@@ -59,7 +66,10 @@ impl Queue {
     pub(crate) fn is_held(&self, long: usize) -> bool
         ensures { result ≡ not (has_room self.now.room (length self.now.tokens)) || not (nat_lt (length self.now.tokens) long) }
     {
-        self.is_full() || self.tokens.len() >= long
+        match &self.tokens {
+            Tokens::Bounded(tokens, most) => tokens.len() >= *most as usize || tokens.len() >= long,
+            Tokens::Unbounded(line) => line.len() >= long,
+        }
     }
 
     /// The token that is taken next.
@@ -67,7 +77,10 @@ impl Queue {
     pub(crate) fn front(&self) -> Option<Token>
         ensures { result ≡ slice_get self.now.tokens 0 }
     {
-        self.tokens.front().copied()
+        match &self.tokens {
+            Tokens::Bounded(tokens, _) => tokens.front().copied(),
+            Tokens::Unbounded(line) => line.front(),
+        }
     }
 
     /// The tokens that lie together from the one that is taken next.
@@ -75,7 +88,10 @@ impl Queue {
     pub(crate) fn together(&self) -> &[Token]
         ensures { ((rest : List TheToken) × (result.now ++ rest ≡ self.now.tokens)) }
     {
-        self.tokens.as_slices().0
+        match &self.tokens {
+            Tokens::Bounded(tokens, _) => tokens.as_slices().0,
+            Tokens::Unbounded(line) => line.as_slice(),
+        }
     }
 
     /// Puts a token at the back, where there is room.
@@ -87,9 +103,12 @@ impl Queue {
         ensures err { OnErr result (self.new ≡ self.old) }
         ensures sure { IsSome self.old.room → IsOk result }
     {
-        match self.tokens.push_back(t) {
-            Ok(()) => Ok(()),
-            Err(_) => Err(AllocError),
+        match &mut self.tokens {
+            Tokens::Bounded(tokens, _) => match tokens.push_back(t) {
+                Ok(()) => Ok(()),
+                Err(_) => Err(AllocError),
+            },
+            Tokens::Unbounded(line) => line.push(t),
         }
     }
 
@@ -99,7 +118,12 @@ impl Queue {
         ensures same_room { self.new.room ≡ self.old.room }
         ensures rest { self.new.tokens ≡ drop 1 self.old.tokens }
     {
-        let _front = self.tokens.pop_front();
+        match &mut self.tokens {
+            Tokens::Bounded(tokens, _) => {
+                let _front = tokens.pop_front();
+            }
+            Tokens::Unbounded(line) => line.pop(),
+        }
     }
 
     /// Takes the token at the back away again.
@@ -108,7 +132,12 @@ impl Queue {
         ensures same_room { self.new.room ≡ self.old.room }
         ensures rest { self.new.tokens ≡ take (length self.old.tokens - 1) self.old.tokens }
     {
-        let _back = self.tokens.pop_back();
+        match &mut self.tokens {
+            Tokens::Bounded(tokens, _) => {
+                let _back = tokens.pop_back();
+            }
+            Tokens::Unbounded(line) => line.unpush(),
+        }
     }
 }
 
