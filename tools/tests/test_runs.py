@@ -1,0 +1,105 @@
+"""What the tools that call `sam` write of the examples; left out where the program isn't built."""
+
+import os
+import re
+import shutil
+import subprocess
+import sys
+import tempfile
+import unittest
+
+HERE = os.path.dirname(os.path.abspath(__file__))
+TOOLS = os.path.join(HERE, "..")
+EXAMPLES = os.path.join(HERE, "..", "..", "examples")
+BUILT = os.environ.get("SAM") or os.path.join(HERE, "..", "..", "crates", "sam_cli", "out", "sam_cli")
+BROWSER = shutil.which("chromium") or shutil.which("chromium-browser") or shutil.which("google-chrome")
+sys.path.insert(0, TOOLS)
+
+from sam_calls import Refused, graph_of, lines_of, streams_of  # noqa: E402
+
+
+def examples():
+    """The program of each example that has its tensor files."""
+    paths = (os.path.join(EXAMPLES, name, "p.sam") for name in sorted(os.listdir(EXAMPLES)))
+    return [path for path in paths if os.path.exists(path) and tensor_files(path)]
+
+
+def tensor_files(program):
+    names = [row[5] for row in lines_of(program) if row[0] == "tensor"]
+    return all(os.path.exists(os.path.join(os.path.dirname(program), name)) for name in names)
+
+
+def tool(name, *words):
+    return subprocess.run([sys.executable, os.path.join(TOOLS, name), *words], capture_output=True, text=True)
+
+
+def dumped(page, anchor):
+    """The text of a page after its script has run, as a browser without a window has it."""
+    words = [BROWSER, "--headless", "--no-sandbox", "--disable-gpu", "--virtual-time-budget=2000", "--dump-dom", f"file://{page}{anchor}"]
+    return subprocess.run(words, capture_output=True, text=True, timeout=60).stdout
+
+
+@unittest.skipUnless(os.path.exists(BUILT), "the program isn't built")
+class Runs(unittest.TestCase):
+    def setUp(self):
+        self.folder = tempfile.TemporaryDirectory()
+        self.addCleanup(self.folder.cleanup)
+        self.page = os.path.join(self.folder.name, "page.html")
+
+    @unittest.skipUnless(shutil.which("dot"), "there is no graphviz")
+    def test_draw_every_example(self):
+        for program in examples():
+            graph = graph_of(program)
+            for words in ([], ["--streams"], ["--count"], ["--waiting"]):
+                done = tool("draw", program, "--svg", *words)
+                self.assertEqual(done.stderr, "", program)
+                drawn = re.findall(r'class="(node|edge)"', done.stdout)
+                self.assertEqual(drawn.count("node"), len(graph["blocks"]), program)
+                self.assertEqual(drawn.count("edge"), len(graph["channels"]), program)
+
+    def test_refusals_are_those_of_sam(self):
+        program = os.path.join(self.folder.name, "p.sam")
+        with open(program, "w", encoding="ascii") as file:
+            file.write("result x 4 c 1\ncompute x(i) = b(i)\nloops i\n")
+        for name in ("draw", "page", "study"):
+            done = tool(name, program)
+            self.assertEqual((done.returncode, done.stdout), (1, ""), name)
+            self.assertIn("sam: program line 2: UnknownName b", done.stderr)
+        with self.assertRaises(Refused):
+            streams_of(program)
+
+    @unittest.skipUnless(shutil.which("dot") and BROWSER, "there is no graphviz or no browser")
+    def test_page_in_a_browser(self):
+        program = os.path.join(EXAMPLES, "plain-product", "p.sam")
+        self.assertEqual(tool("page", program, "--out", self.page).stderr, "")
+        for channel, said in ((0, "root, 2 of 2"), (7, "product 0 1 3 rank 1, 3 of 3"), (10, "product 0 1 3 partial 2, 3 of 3")):
+            self.assertTrue(f"Channel {channel}: {said} tokens sent" in dumped(self.page, f"#channel{channel}"), channel)
+        begun = dumped(self.page, "#channel7@0")
+        self.assertTrue("Channel 7: product 0 1 3 rank 1, 0 of 3 tokens sent" in begun)
+        self.assertEqual(begun.count('class="unsent"'), 3)
+
+    @unittest.skipUnless(shutil.which("dot") and BROWSER, "there is no graphviz or no browser")
+    def test_page_of_a_stall(self):
+        program = os.path.join(EXAMPLES, "stalled-sum", "p.sam")
+        self.assertEqual(tool("page", program, "--of", "7=1", "--out", self.page).stderr, "")
+        self.assertTrue("block 4 waits: channel 7 is full" in dumped(self.page, ""))
+
+    @unittest.skipUnless(shutil.which("dot"), "there is no graphviz")
+    def test_pages_of_every_example(self):
+        for program in examples():
+            self.assertEqual(tool("page", program, "--out", self.page).stderr, "", program)
+
+    def test_study(self):
+        program = os.path.join(EXAMPLES, "matrix-product-by-vectors", "p.sam")
+        plot = os.path.join(self.folder.name, "plot.svg")
+        done = tool("study", program, "--plot", plot)
+        rows = [line.split(" | ") for line in done.stdout.splitlines()[2:]]
+        self.assertEqual(sorted(row[0].strip("| ") for row in rows), ["i j k", "i k j", "j i k", "j k i", "k i j", "k j i"])
+        for row in rows:
+            self.assertEqual(len(row), 8, row)
+        with open(plot, encoding="utf-8") as file:
+            self.assertEqual(file.read().count("<rect"), 6)
+
+
+if __name__ == "__main__":
+    unittest.main()
