@@ -1,4 +1,3 @@
-pub mod laws
 pub mod draft
 pub mod term
 pub mod join

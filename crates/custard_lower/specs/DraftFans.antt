@@ -7,7 +7,8 @@ use Rattle.graph.specs.declared.graphs.Channel.{Channel}
 use Rattle.custard_lower.specs.declared.drafts.Made.{Made}
 use Rattle.custard_lower.specs.declared.fans.Read.{Read}
 use Rattle.custard_lower.specs.declared.fans.Fan.{Fan}
-use Rattle.custard_lower.specs.Drafts.{outputs_of, no_label}
+use Rattle.custard_lower.specs.Drafts.{outputs_of}
+use Rattle.label_rules.specs.Labels.{no_label}
 use Rattle.custard_lower.specs.Fans.{no_read, no_fan, fan_taker, fan_channel, channel_from}
 use Rattle.custard_lower.specs.DraftGraph.{fan_of}
 

@@ -3,8 +3,7 @@
 use Rattle.std.specs.Prelude.{ℕ, List, length, get_or}
 use Rattle.std.specs.List.{flat_map}
 use Rattle.stream_model.specs.declared.labels.Label.{Label}
-use Rattle.stream_model.specs.declared.labels.Tree.TheVariants as tree
-use Rattle.stream_model.specs.declared.labels.Attr.TheVariants as attr
+use Rattle.label_rules.specs.Labels.{no_label}
 use Rattle.custard_lower.specs.declared.drafts.Made.{Made}
 
 -- the labels of all outputs, by their numbers
@@ -14,9 +13,6 @@ labels_of made = flat_map (λ m. m.labels) made
 -- how many outputs these blocks have
 abbrev pub outputs_of : List Made → ℕ
 outputs_of made = length (labels_of made)
-
-abbrev pub no_label : Label
-no_label = record { tree = tree.Root; attr = attr.Literal 0 }
 
 -- the label of an output
 abbrev pub label_at : List Made → ℕ → Label

@@ -1,6 +1,4 @@
 pub mod Drafts
-pub mod Masks
-pub mod Plans
 pub mod Nests
 pub mod Values
 pub mod Reductions

@@ -1,11 +1,9 @@
 -- What is promised of the graph of a program.
 use Rattle.std.specs.Prelude.{◌≡◌, ◌<◌, ◌^◌, ℕ, List, length}
-use mathlib.Core.List.{map}
 use Rattle.sam_model.specs.declared.tensors.Entries.{Entries}
 use Rattle.sam_model.specs.declared.tensors.Written.{Written}
 use Rattle.sam_model.specs.declared.program.Program.{Program}
-use Rattle.sam_model.specs.Children.{Ranked, ranked}
-use Rattle.sam_model.specs.Denote.{stored_of, result_entries}
+use Rattle.sam_model.specs.Denote.{result_entries}
 use Rattle.sam_model.specs.Listing.{InRange, listing}
 use Rattle.stream_model.specs.Labels.{result_sizes, label_stream}
 use Rattle.graph.specs.declared.graphs.Graph.{Graph}
@@ -13,16 +11,13 @@ use Rattle.graph.specs.Wiring.{WellFormed, channel}
 use Rattle.graph.specs.WholeStreams.{whole_stream, Consistent}
 use Rattle.graph.specs.Assembly.{KindsInRange, FewPayloads}
 use Rattle.graph.specs.Writers.{written_listing}
+pub use Rattle.label_rules.specs.Storages.{storages_of}
 use Rattle.custard_lower.specs.DraftGraph.{graph_of}
 use Rattle.custard_lower.specs.Lowering.{program_draft}
 
 -- the graph of a program
 abbrev pub low : Program → Graph
 low p = graph_of (program_draft p)
-
--- a program's tensors by ranks, over these entries
-abbrev pub storages_of : Program → List Entries → List Ranked
-storages_of p es = map ranked (stored_of p.tensors es)
 
 -- what the writers leave
 abbrev pub written_of : Program → Graph → List Entries → Written

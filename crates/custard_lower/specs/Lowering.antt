@@ -8,12 +8,12 @@ use Rattle.stream_model.specs.declared.labels.Tree.{Tree}
 use Rattle.stream_model.specs.declared.labels.Tree.TheVariants.{Reduced, Joined}
 use Rattle.graph.specs.declared.graphs.Kind.TheVariants as kind
 use Rattle.custard_lower.specs.declared.drafts.Made.{Made}
-use Rattle.custard_lower.specs.declared.plans.Plan.{Plan}
-use Rattle.custard_lower.specs.Drafts.{no_label}
-use Rattle.custard_lower.specs.Plans.{plan_of}
+use Rattle.label_rules.specs.declared.plans.Plan.{Plan}
+use Rattle.label_rules.specs.Labels.{no_label}
+use Rattle.label_rules.specs.Plans.{plan_of, free_marks}
 use Rattle.custard_lower.specs.Nests.{nest}
 use Rattle.custard_lower.specs.Values.{valued}
-use Rattle.custard_lower.specs.Reductions.{Levels, reduced, pruned, free_marks}
+use Rattle.custard_lower.specs.Reductions.{Levels, reduced, pruned}
 use Rattle.custard_lower.specs.Unions.{Part, joined_sides}
 
 -- the root, whose output is every factor's reference before the first loop

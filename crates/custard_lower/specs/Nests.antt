@@ -9,12 +9,12 @@ use Rattle.stream_model.specs.declared.labels.Tree.TheVariants.{Product}
 use Rattle.stream_model.specs.Masks.{levels_before}
 use Rattle.graph.specs.declared.graphs.Kind.TheVariants as kind
 use Rattle.custard_lower.specs.declared.drafts.Made.{Made}
-use Rattle.custard_lower.specs.declared.plans.Plan.{Plan}
+use Rattle.label_rules.specs.declared.plans.Plan.{Plan}
 pub use Rattle.custard_lower.specs.declared.nests.Met.{Met}
 pub use Rattle.custard_lower.specs.declared.nests.Nest.{Nest}
 use Rattle.custard_lower.specs.Drafts.{outputs_of}
-use Rattle.custard_lower.specs.Masks.{factors_mask}
-use Rattle.custard_lower.specs.Plans.{plan_access, asked, spared}
+use Rattle.label_rules.specs.Masks.{factors_mask}
+use Rattle.label_rules.specs.Plans.{plan_access, asked, spared}
 
 -- a draft in which factors were met, and what is met in the end
 pub record Meeting : Type 0 where

@@ -1,5 +1,5 @@
 -- The sums over the loops that aren't on the left, and the pruning of what has no value, as blocks.
-use Rattle.std.specs.Prelude.{ℕ, zero, suc, ◌-◌, Bool, true, false, cond, List, [], ◌∷◌, ◌++◌, length, take, get_or, set}
+use Rattle.std.specs.Prelude.{ℕ, zero, suc, ◌-◌, Bool, true, false, List, [], ◌∷◌, ◌++◌, length, take, get_or, set}
 use Rattle.stream_model.specs.declared.labels.Label.{Label}
 use Rattle.stream_model.specs.declared.labels.Attr.{Attr}
 use Rattle.stream_model.specs.declared.labels.Attr.TheVariants.{Coordinate, Value}
@@ -7,6 +7,7 @@ use Rattle.stream_model.specs.declared.labels.Tree.TheVariants as tree
 use Rattle.graph.specs.declared.graphs.Kind.TheVariants as kind
 use Rattle.custard_lower.specs.declared.drafts.Made.{Made}
 pub use Rattle.custard_lower.specs.declared.reductions.Levels.{Levels}
+use Rattle.label_rules.specs.Plans.{left_marks, free_marks}
 use Rattle.custard_lower.specs.Drafts.{outputs_of}
 
 abbrev pub reduced_tree_label : ℕ → ℕ → ℕ → ℕ → Attr → Label
@@ -20,15 +21,6 @@ unpruned = 9
 abbrev pub level_at : List ℕ → ℕ → ℕ
 level_at coordinates zero = 0
 level_at coordinates (suc k) = get_or coordinates k 0
-
--- of these loops, marked by whether they are on the left, those that are and those that aren't
-abbrev pub left_marks : List Bool → ℕ
-left_marks [] = 0
-left_marks (mark ∷ marks) = cond mark (suc (left_marks marks)) (left_marks marks)
-
-abbrev pub free_marks : List Bool → ℕ
-free_marks [] = 0
-free_marks (mark ∷ marks) = cond mark (free_marks marks) (suc (free_marks marks))
 
 module _ (term : ℕ) where
   -- ---- a loop is taken away, where `gone` are gone already and n levels are left before

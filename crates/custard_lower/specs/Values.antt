@@ -8,10 +8,10 @@ use Rattle.stream_model.specs.declared.labels.Attr.{Attr}
 use Rattle.stream_model.specs.declared.labels.Attr.TheVariants.{FactorValue, Partial, Whole, Literal}
 use Rattle.graph.specs.declared.graphs.Kind.TheVariants as kind
 use Rattle.custard_lower.specs.declared.drafts.Made.{Made}
-use Rattle.custard_lower.specs.declared.plans.Plan.{Plan}
+use Rattle.label_rules.specs.declared.plans.Plan.{Plan}
 pub use Rattle.custard_lower.specs.declared.values.Valued.{Valued}
 use Rattle.custard_lower.specs.Drafts.{outputs_of}
-use Rattle.custard_lower.specs.Plans.{plan_access, asked}
+use Rattle.label_rules.specs.Plans.{plan_access, asked}
 use Rattle.custard_lower.specs.Nests.{product_tree_label}
 
 module _ (term : ℕ) (t : Plan) where

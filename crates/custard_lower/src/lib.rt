@@ -13,5 +13,4 @@ mod values;
 mod wiring;
 
 pub use drafts::Made;
-pub use plans::{Access, Plan};
 pub use programs::lower;

@@ -2,17 +2,17 @@
 
 ghost use Rattle.std.specs.Prelude.{◌≡◌, ◌≤◌, ◌++◌, true, length, map, drop, IfOk};
 ghost use Rattle.sam_model.specs.Accepted.{accepted, term_fits};
-ghost use Rattle.custard_lower.specs.Plans.{PlanIsSmall};
-ghost use Rattle.custard_lower.specs.Reductions.{left_marks};
+ghost use Rattle.label_rules.specs.Plans.{PlanIsSmall, left_marks};
 ghost use Rattle.custard_lower.specs.Lowering.{summed_levels, term_levels, with_writers, first_level_tree, part, with_term, with_terms, program_draft};
 
 use crate::drafts::{Draft, Made};
 use crate::nests::Nest;
-use crate::plans::{NumberedPlan, term_plan};
+use crate::plans::NumberedPlan;
 use crate::reductions::{Levels, free_loops};
 use crate::unions::{Part, join};
 use crate::values::Valued;
 use graph::Kind;
+use label_rules::term_plan;
 use sam_base::Items;
 use sam_model::{Program, Term};
 use std::alloc::{AllocError, Global};
@@ -129,7 +129,7 @@ fn joined_term(
     join(n, t.minus, made, &left, &right)
 }
 
-#[tactic(auto, using(crate::proofs::term::SmallPlans::term_at_fits, crate::proofs::term::SmallPlans::few_terms, crate::proofs::join::JoinedTerms::terms_further))]
+#[tactic(auto, using(label_rules::proofs::term::SmallPlans::term_at_fits, label_rules::proofs::term::SmallPlans::few_terms, crate::proofs::join::JoinedTerms::terms_further))]
 /// Joins the terms from the second on, each to those before it; the first one's first level has this tree.
 fn joined_terms(p: &Program, tree: Tree, levels: Levels) -> Result<Levels, AllocError>
     requires accepted { accepted p.now ≡ true }
@@ -148,7 +148,7 @@ fn joined_terms(p: &Program, tree: Tree, levels: Levels) -> Result<Levels, Alloc
     Ok(levels)
 }
 
-#[tactic(auto, using(crate::proofs::term::SmallPlans::some_term, crate::proofs::term::SmallPlans::term_at_fits, crate::proofs::join::JoinedTerms::drafted))]
+#[tactic(auto, using(label_rules::proofs::term::SmallPlans::some_term, label_rules::proofs::term::SmallPlans::term_at_fits, crate::proofs::join::JoinedTerms::drafted))]
 /// The draft of the graph of a program.
 pub(crate) fn draft(alloc: Global, p: &Program) -> Result<Items<Made>, AllocError>
     requires { accepted p.now ≡ true }

@@ -5,8 +5,8 @@ ghost use Rattle.std.specs.List.{All, range_with_len};
 ghost use Rattle.stream_model.specs.declared.labels.Attr.TheVariants.{Coordinate, Rank};
 ghost use Rattle.stream_model.specs.Masks.{levels_before};
 ghost use Rattle.custard_lower.specs.Drafts.{outputs_of};
-ghost use Rattle.custard_lower.specs.Masks.{factors_mask};
-ghost use Rattle.custard_lower.specs.Plans.{asked, PlanIsSmall};
+ghost use Rattle.label_rules.specs.Masks.{factors_mask};
+ghost use Rattle.label_rules.specs.Plans.{asked, PlanIsSmall};
 ghost use Rattle.custard_lower.specs.Nests.{product_tree_label, placed, scan, intersect, repeat, first_met, met_with, all_met, level, nest};
 
 use crate::drafts::Draft;

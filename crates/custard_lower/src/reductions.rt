@@ -1,7 +1,8 @@
 //! The sums over the loops that aren't on the left, and the pruning of what has no value, as blocks.
 
 ghost use Rattle.std.specs.Prelude.{◌≡◌, ◌+◌, ◌<◌, ◌≤◌, ◌++◌, take, length, IfOk, OnOk};
-ghost use Rattle.custard_lower.specs.Reductions.{reduced_tree_label, level_at, left_marks, free_marks, reduce, reduced, without_values, without_fibers, pruned};
+ghost use Rattle.custard_lower.specs.Reductions.{reduced_tree_label, level_at, reduce, reduced, without_values, without_fibers, pruned};
+ghost use Rattle.label_rules.specs.Plans.{left_marks, free_marks};
 
 use crate::drafts::Draft;
 use graph::Kind;

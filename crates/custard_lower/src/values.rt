@@ -3,7 +3,7 @@
 ghost use Rattle.std.specs.Prelude.{◌≡◌, ◌+◌, ◌-◌, ◌<◌, ◌^◌, suc, [], ◌∷◌, ◌++◌, length, IfOk, OnOk};
 ghost use Rattle.std.specs.List.{range_with_len};
 ghost use Rattle.custard_lower.specs.Drafts.{outputs_of};
-ghost use Rattle.custard_lower.specs.Plans.{PlanIsSmall};
+ghost use Rattle.label_rules.specs.Plans.{PlanIsSmall};
 ghost use Rattle.custard_lower.specs.Values.{full_label, array, arrays, product, multiplied, scaled, valued};
 
 use crate::drafts::Draft;

@@ -10,7 +10,8 @@ use Rattle.graph.specs.Wiring.{no_channel}
 use Rattle.custard_lower.specs.declared.drafts.Made.{Made}
 use Rattle.custard_lower.specs.declared.fans.Read.{Read}
 use Rattle.custard_lower.specs.declared.fans.Fan.{Fan}
-use Rattle.custard_lower.specs.Drafts.{outputs_of, no_label, label_at}
+use Rattle.custard_lower.specs.Drafts.{outputs_of, label_at}
+use Rattle.label_rules.specs.Labels.{no_label}
 use Rattle.custard_lower.specs.Fans.{fan_taker, channel_from}
 use Rattle.custard_lower.specs.DraftGraph.{made_at, first_output, reads_of, readers, taker, output_channel, output_channels}
 use Rattle.custard_lower.specs.DraftFans.{fans_of, port_channel}

@@ -23,7 +23,8 @@ use Rattle.graph.specs.Assembly.{KindInRange, KindsInRange, payloads_of, FewPayl
 use Rattle.graph.proofs.Arity.{same-ins, same-outs}
 use Rattle.graph.specs.Laws.{Carried}
 use Rattle.custard_lower.specs.declared.drafts.Made.{Made}
-use Rattle.custard_lower.specs.Drafts.{labels_of, outputs_of, no_label, label_at}
+use Rattle.custard_lower.specs.Drafts.{labels_of, outputs_of, label_at}
+use Rattle.label_rules.specs.Labels.{no_label}
 use Rattle.custard_lower.specs.Fans.{ending_kind}
 use Rattle.custard_lower.specs.DraftGraph.{made_at, first_output, readers, has_one, ending, first_copy, graph_of}
 use Rattle.custard_lower.proofs.draft.Typed.{TypedBlock, Typed}

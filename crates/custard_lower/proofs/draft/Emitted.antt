@@ -17,7 +17,8 @@ use Rattle.graph.specs.declared.graphs.Kind.TheVariants.{WriteLevel, WriteValue}
 use Rattle.graph.specs.Meaning.{meaning}
 use Rattle.graph.specs.Assembly.{KindInRange, payloads_of}
 use Rattle.custard_lower.specs.declared.drafts.Made.{Made}
-use Rattle.custard_lower.specs.Drafts.{labels_of, outputs_of, label_at, no_label}
+use Rattle.custard_lower.specs.Drafts.{labels_of, outputs_of, label_at}
+use Rattle.label_rules.specs.Labels.{no_label}
 use Rattle.custard_lower.proofs.draft.Typed.{Typed}
 
 -- ---- labels of a longer draft

@@ -12,7 +12,8 @@ use Rattle.graph.specs.declared.graphs.Block.{Block}
 use Rattle.graph.specs.declared.graphs.Channel.{Channel}
 use Rattle.graph.specs.Wiring.{no_block, no_channel, block, channel}
 use Rattle.custard_lower.specs.declared.drafts.Made.{Made}
-use Rattle.custard_lower.specs.Drafts.{labels_of, outputs_of, no_label, label_at}
+use Rattle.custard_lower.specs.Drafts.{labels_of, outputs_of, label_at}
+use Rattle.label_rules.specs.Labels.{no_label}
 use Rattle.custard_lower.specs.Fans.{fan_block, copy_from}
 use Rattle.custard_lower.specs.DraftGraph.{fan_of, no_made, made_at, first_output, has_one, ending, copies, first_copy, draft_block, added_blocks, output_channel, output_channels, copy_channels, graph_of}
 use Rattle.custard_lower.proofs.draft.Pieces.{before, before-more, before-rises, item-of-piece, piece-within, in-piece, before-sum, before-same, pieces-of-items}

@@ -29,28 +29,28 @@ use Rattle.stream_model.proofs.Streams.{stream_at-IsStream}
 use Rattle.block_core.specs.Kind.{AluKind, FillKind}
 use Rattle.block_core.proofs.Given.{Gives}
 use Rattle.custard_lower.specs.declared.drafts.Made.{Made}
-use Rattle.custard_lower.specs.declared.plans.Plan.{Plan}
-use Rattle.custard_lower.specs.Plans.{plan_of}
-use Rattle.custard_lower.specs.Reductions.{Levels, free_marks}
+use Rattle.label_rules.specs.declared.plans.Plan.{Plan}
+use Rattle.label_rules.specs.Plans.{plan_of, free_marks}
+use Rattle.custard_lower.specs.Reductions.{Levels}
 use Rattle.custard_lower.specs.Unions.{Part, joined_sides}
 use Rattle.custard_lower.specs.Lowering.{root, term_levels, first_level_tree, part, with_terms}
-use Rattle.custard_lower.specs.Lowered.{storages_of}
+use Rattle.label_rules.specs.Storages.{storages_of}
 use Rattle.custard_lower.proofs.draft.Emitted.{Stands, Sound, Extends, stands-on}
-use Rattle.custard_lower.proofs.term.Matching.{Matches}
-use Rattle.custard_lower.proofs.term.PlanMatches.{plan-matches}
+use Rattle.label_rules.proofs.term.Matching.{Matches}
+use Rattle.label_rules.proofs.term.PlanMatches.{plan-matches}
 use Rattle.custard_lower.proofs.term.PrunedSound.{PrunedStand, pruned_from, values_from}
-use Rattle.custard_lower.proofs.term.ReducedSound.{free-marks}
+use Rattle.label_rules.proofs.term.Marks.{free-marks}
 use Rattle.custard_lower.proofs.term.TermSound.{few-levels, term-stands, root-sound, root-stands}
 use Rattle.custard_lower.proofs.join.Extending.{term-extends}
-use Rattle.custard_lower.proofs.laws.ValueLaws.{constant-on}
-use Rattle.custard_lower.proofs.laws.UnionLaw.{union-presence}
-use Rattle.custard_lower.proofs.laws.JoinValues.{joining, union-values, sum-gives, difference-gives}
-use Rattle.custard_lower.proofs.laws.JoinsAlone.{term_alone, joined_alone, first-alone, sum-alone, difference-alone}
-use Rattle.custard_lower.proofs.laws.JoinSides.{sized-at, right-first, left-first, join-first}
-use Rattle.custard_lower.proofs.laws.FillSides.{term_shape, right-fill-coordinates, right-fill-values, first-fill-coordinates, first-fill-values, left-fill-coordinates, left-fill-values}
+use Rattle.label_rules.proofs.laws.ValueLaws.{constant-on}
+use Rattle.label_rules.proofs.laws.UnionLaw.{union-presence}
+use Rattle.label_rules.proofs.laws.JoinValues.{joining, union-values, sum-gives, difference-gives}
+use Rattle.label_rules.proofs.laws.JoinsAlone.{term_alone, joined_alone, first-alone, sum-alone, difference-alone}
+use Rattle.label_rules.proofs.laws.JoinSides.{sized-at, right-first, left-first, join-first}
+use Rattle.label_rules.proofs.laws.FillSides.{term_shape, right-fill-coordinates, right-fill-values, first-fill-coordinates, first-fill-values, left-fill-coordinates, left-fill-values}
 use Rattle.custard_lower.proofs.join.JoinSound.{SideStands, JoinStands, side-on, join-stands}
 use Rattle.custard_lower.proofs.join.PartSides.{part-side}
-use Rattle.custard_lower.proofs.written.WritersSound.{level-written}
+use Rattle.label_rules.proofs.laws.WriterLaw.{level-written}
 use Rattle.custard_lower.proofs.written.WrittenJoined.{joined-tensor}
 use Rattle.custard_lower.proofs.written.ResultGraph.{ResultStands}
 use Rattle.custard_lower.proofs.join.OnlyTerm.{only-stands}

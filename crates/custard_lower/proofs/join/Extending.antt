@@ -4,12 +4,12 @@ use Rattle.std.specs.List.{range_with_len}
 use mathlib.Core.List.{map}
 use Rattle.sam_model.specs.Lists.{below}
 use Rattle.custard_lower.specs.declared.drafts.Made.{Made}
-use Rattle.custard_lower.specs.declared.plans.Plan.{Plan}
+use Rattle.label_rules.specs.declared.plans.Plan.{Plan}
 use Rattle.custard_lower.specs.Drafts.{outputs_of}
-use Rattle.custard_lower.specs.Plans.{asked}
+use Rattle.label_rules.specs.Plans.{asked, left_marks, free_marks}
 use Rattle.custard_lower.specs.Nests.{Met, Nest, scan, intersect, met_with, first_met, all_met, scanned, level, nest}
 use Rattle.custard_lower.specs.Values.{Valued, array, arrays, product, multiplied, constant, scaling, scaled, valued}
-use Rattle.custard_lower.specs.Reductions.{Levels, left_marks, free_marks, sum_scalar, sum_vector, sum_matrix, reduce, reduced, drop_value, without_values, drop_fiber, without_fibers, emptied, pruned_below}
+use Rattle.custard_lower.specs.Reductions.{Levels, sum_scalar, sum_vector, sum_matrix, reduce, reduced, drop_value, without_values, drop_fiber, without_fibers, emptied, pruned_below}
 use Rattle.custard_lower.specs.Lowering.{term_levels}
 use Rattle.custard_lower.proofs.draft.Emitted.{Extends, extends-same, extends-more, extends-both}
 

@@ -23,7 +23,7 @@ use Rattle.custard_lower.specs.declared.drafts.Made.{Made}
 use Rattle.custard_lower.specs.Drafts.{outputs_of}
 use Rattle.custard_lower.specs.Reductions.{Levels}
 use Rattle.custard_lower.specs.Unions.{Part, Flank, Front, joined_label, filled, flank, mark, joined_levels, sum, left_values, right_values, joined_sides}
-use Rattle.custard_lower.proofs.laws.JoinValues.{joining}
+use Rattle.label_rules.proofs.laws.JoinValues.{joining}
 use Rattle.custard_lower.proofs.draft.Emitted.{stands-snoc, Stands, AllStand, Sound, Extends, extends-same, extends-more, extends-both, stands-on, all-stand-new, sound-emit}
 
 below_last : (a b : ℕ) → a ≤ b → eqb a b ≡ false → a < b

@@ -6,7 +6,7 @@ use Rattle.sam_model.specs.declared.program.Term.{Term}
 use Rattle.sam_model.specs.declared.program.Program.{Program}
 use Rattle.stream_model.specs.declared.labels.Tree.{Tree}
 use Rattle.stream_model.specs.declared.labels.Tree.TheVariants.{Joined}
-use Rattle.custard_lower.specs.Plans.{plan_of}
+use Rattle.label_rules.specs.Plans.{plan_of}
 use Rattle.custard_lower.specs.Reductions.{Levels}
 use Rattle.custard_lower.specs.Lowering.{root, term_levels, with_writers, first_level_tree, with_term, with_terms, draft_of, program_draft}
 

@@ -16,16 +16,16 @@ use Rattle.stream_model.proofs.Places.{term-sizes}
 use Rattle.stream_model.proofs.Results.{only-fits}
 use Rattle.stream_model.proofs.Streams.{stream_at-IsStream}
 use Rattle.block_core.specs.Written.{vals_of}
-use Rattle.custard_lower.specs.declared.plans.Plan.{Plan}
-use Rattle.custard_lower.specs.Plans.{plan_of}
+use Rattle.label_rules.specs.declared.plans.Plan.{Plan}
+use Rattle.label_rules.specs.Plans.{plan_of}
 use Rattle.custard_lower.specs.Reductions.{Levels}
 use Rattle.custard_lower.specs.Lowering.{root, term_levels}
-use Rattle.custard_lower.specs.Lowered.{storages_of}
-use Rattle.custard_lower.proofs.term.Matching.{Matches}
-use Rattle.custard_lower.proofs.term.PlanMatches.{plan-matches}
+use Rattle.label_rules.specs.Storages.{storages_of}
+use Rattle.label_rules.proofs.term.Matching.{Matches}
+use Rattle.label_rules.proofs.term.PlanMatches.{plan-matches}
 use Rattle.custard_lower.proofs.term.PrunedSound.{PrunedStand, pruned_from, values_from}
 use Rattle.custard_lower.proofs.term.TermSound.{few-levels, term-stands, root-sound, root-stands}
-use Rattle.custard_lower.proofs.written.WritersSound.{level-written}
+use Rattle.label_rules.proofs.laws.WriterLaw.{level-written}
 use Rattle.custard_lower.proofs.written.WrittenEntries.{ListsResult, streams_written}
 use Rattle.custard_lower.proofs.written.ResultGraph.{ResultStands}
 use Rattle.custard_lower.proofs.written.WrittenTensor.{PrunedInTime, ValuesInTime, pruned_written, written-tensor}

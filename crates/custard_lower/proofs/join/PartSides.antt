@@ -1,6 +1,6 @@
 -- A term, or a join, whose levels stand on outputs, is a side of the next join.
 use Rattle.std.specs.Prelude.{true, ◌≡◌, ◌<◌, ◌≤◌, ℕ, suc, List, [], ◌∷◌, length, get_or, refl}
-use Rattle.std.proofs.Common.{arith, sym, ◌∙◌, ap, subst}
+use Rattle.std.proofs.Common.{arith, ◌∙◌, subst}
 use Rattle.stream_tokens.specs.declared.Token.{Token}
 use Rattle.sam_model.specs.declared.tensors.Entries.{Entries}
 use Rattle.sam_model.specs.declared.program.Program.{Program}
@@ -10,23 +10,13 @@ use Rattle.stream_model.specs.declared.labels.Label.{Label}
 use Rattle.stream_model.specs.declared.labels.Side.{Side}
 use Rattle.stream_model.specs.Terms.{summands}
 use Rattle.stream_model.specs.Labels.{Shape, beside_shape, stream_at, label_stream, result_sizes}
-use Rattle.block_core.specs.Ports.{port}
-use Rattle.block_core.specs.Kind.{ConstKind, FillKind, outputs}
+use Rattle.block_core.specs.Kind.{FillKind}
 use Rattle.block_core.proofs.Given.{Gives}
 use Rattle.custard_lower.specs.declared.drafts.Made.{Made}
 use Rattle.custard_lower.specs.Unions.{Part}
 use Rattle.custard_lower.proofs.draft.Emitted.{Stands}
-use Rattle.custard_lower.proofs.laws.ValueLaws.{constant-on}
+use Rattle.label_rules.proofs.laws.ValueLaws.{same-marks}
 use Rattle.custard_lower.proofs.join.JoinSound.{J, SideStands}
-
--- where the same coordinates are told of two trees, so is the same constant
-pub same-marks : (a b : Shape) (c : ℕ) → a.depth ≤ 200 → b.depth ≤ 200
-    → ((p : List ℕ) → a.has p ≡ true) → ((p : List ℕ) → b.has p ≡ true) → stream_at a Coordinate ≡ stream_at b Coordinate
-    → stream_at a (Literal c) ≡ stream_at b (Literal c)
-same-marks a b c h k all every e =
-    let x = (constant-on a c h all).made_of in
-    let y = (constant-on b c k every).made_of in
-    ap (port 0) (sym x ∙ ap (λ (s : List Token). outputs (ConstKind c) (s ∷ [])) e ∙ y)
 
 module _ (p : Program) (es : List Entries) (storages : List Ranked) (last : ℕ) (few : length (result_sizes p) < 9) where
   abbrev stream : Label → List Token

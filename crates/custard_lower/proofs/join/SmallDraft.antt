@@ -19,17 +19,17 @@ use Rattle.stream_model.specs.declared.labels.Tree.TheVariants.{Joined, Beside}
 use Rattle.stream_model.proofs.Places.{accepted-terms}
 use Rattle.stream_model.proofs.Depths.{filter-short}
 use Rattle.custard_lower.specs.declared.drafts.Made.{Made}
-use Rattle.custard_lower.specs.declared.plans.Plan.{Plan}
+use Rattle.label_rules.specs.declared.plans.Plan.{Plan}
 use Rattle.custard_lower.specs.Drafts.{labels_of, outputs_of}
-use Rattle.custard_lower.specs.Plans.{plan_of, asked, spared, has_loop, PlanIsSmall}
+use Rattle.label_rules.specs.Plans.{plan_of, asked, spared, has_loop, PlanIsSmall, left_marks, free_marks}
 use Rattle.custard_lower.specs.Nests.{product_tree_label, Met, Nest, scan, intersect, repeat, first_met, met_with, all_met, scanned, level, nest}
 use Rattle.custard_lower.specs.Values.{Valued, array, arrays, product, multiplied, constant, scaling, scaled, valued}
-use Rattle.custard_lower.specs.Reductions.{Levels, left_marks, sum_scalar, sum_vector, sum_matrix, drop_value, drop_fiber, reduce, reduced, without_values, without_fibers, emptied, pruned_below, free_marks}
+use Rattle.custard_lower.specs.Reductions.{Levels, sum_scalar, sum_vector, sum_matrix, drop_value, drop_fiber, reduce, reduced, without_values, without_fibers, emptied, pruned_below}
 use Rattle.custard_lower.specs.Unions.{Part, Flank, Front, on_last, fill, mark, filled, flank, marked, payload, union, sum, left_values, right_values, joined_level, joined_levels, joined_sides}
 use Rattle.custard_lower.specs.Lowering.{root, summed_levels, term_levels, level_writer, value_writer, with_writers, first_level_tree, part, with_term, with_terms, draft_of, program_draft}
 use Rattle.custard_lower.specs.DraftGraph.{DraftIsSmall}
 use Rattle.custard_lower.proofs.term.Nesting.{levels_counted}
-use Rattle.custard_lower.proofs.term.SmallPlans.{small-plan, few_terms}
+use Rattle.label_rules.proofs.term.SmallPlans.{small-plan, few_terms}
 use Rattle.custard_lower.proofs.draft.SmallGraphs.{read_count, read-number}
 
 -- ---- the weight of a draft

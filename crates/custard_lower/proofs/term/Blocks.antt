@@ -4,7 +4,7 @@ use mathlib.Core.List.{map}
 use Rattle.std.specs.List.{range_with_len}
 use Rattle.std.proofs.lemmas.List.FromFn.{map-range_with_len_more}
 use Rattle.custard_lower.specs.declared.drafts.Made.{Made}
-use Rattle.custard_lower.specs.declared.plans.Plan.{Plan}
+use Rattle.label_rules.specs.declared.plans.Plan.{Plan}
 use Rattle.custard_lower.specs.Drafts.{outputs_of}
 use Rattle.custard_lower.specs.Values.{Valued, product, multiplied}
 use Rattle.custard_lower.proofs.term.Counting.{range_further}

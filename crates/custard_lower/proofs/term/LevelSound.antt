@@ -24,19 +24,19 @@ use Rattle.block_core.specs.Kind.{ScanKind, RepeatKind, IntersectKind}
 use Rattle.block_core.proofs.Given.{Gives}
 use Rattle.graph.specs.Meaning.{stored_at}
 use Rattle.custard_lower.specs.declared.drafts.Made.{Made}
-use Rattle.custard_lower.specs.declared.plans.Plan.{Plan}
+use Rattle.label_rules.specs.declared.plans.Plan.{Plan}
 use Rattle.custard_lower.specs.Drafts.{outputs_of}
-use Rattle.custard_lower.specs.Masks.{factors_mask}
-use Rattle.custard_lower.specs.Plans.{plan_access, asked}
+use Rattle.label_rules.specs.Masks.{factors_mask}
+use Rattle.label_rules.specs.Plans.{plan_access, asked}
 use Rattle.custard_lower.specs.Nests.{Met, product_tree_label, head_labels, scan, intersect, repeat, met_with, all_met}
 use Rattle.custard_lower.proofs.draft.Emitted.{Stands, AllStand, Sound, Extends, extends-same, extends-more, extends-both, stands-on, all-stand-append, all-stand-new, sound-emit, outputs-emit}
-use Rattle.custard_lower.proofs.term.Matching.{Matches}
-use Rattle.custard_lower.proofs.term.Asked.{Haves}
-use Rattle.custard_lower.proofs.term.MaskNumbers.{mask-one, mask-more}
-use Rattle.custard_lower.proofs.laws.ProductTrees.{product_stream}
-use Rattle.custard_lower.proofs.laws.ScanLaw.{scan-gives}
-use Rattle.custard_lower.proofs.laws.IntersectLaw.{intersect-law}
-use Rattle.custard_lower.proofs.laws.RepeatLaw.{repeat-gives}
+use Rattle.label_rules.proofs.term.Matching.{Matches}
+use Rattle.label_rules.proofs.term.Asked.{Haves}
+use Rattle.label_rules.proofs.term.MaskNumbers.{mask-one, mask-more}
+use Rattle.label_rules.proofs.laws.ProductTrees.{product_stream}
+use Rattle.label_rules.proofs.laws.ScanLaw.{scan-gives}
+use Rattle.label_rules.proofs.laws.IntersectLaw.{intersect-law}
+use Rattle.label_rules.proofs.laws.RepeatLaw.{repeat-gives}
 
 -- term number `term` of a program over its entries
 module _ (p : Program) (es : List Entries) (storages : List Ranked) (term : ℕ) (plan : Plan)

@@ -16,15 +16,15 @@ use Rattle.stream_model.specs.Labels.{label_stream, root_shape, stream_at, term_
 use Rattle.stream_model.specs.Masks.{final}
 use Rattle.stream_model.proofs.Numbers.{AllBelow}
 use Rattle.custard_lower.specs.declared.drafts.Made.{Made}
-use Rattle.custard_lower.specs.declared.plans.Plan.{Plan}
+use Rattle.label_rules.specs.declared.plans.Plan.{Plan}
 use Rattle.custard_lower.specs.Drafts.{outputs_of}
-use Rattle.custard_lower.specs.Plans.{asked, spared}
+use Rattle.label_rules.specs.Plans.{asked, spared}
 use Rattle.custard_lower.specs.Nests.{Nest, scan, repeat, first_met, all_met, scanned, level, nest, placed}
 use Rattle.custard_lower.proofs.draft.Emitted.{Stands, AllStand, Sound, Extends, extends-more, extends-both, stands-on, all-stand-on, stands-snoc}
-use Rattle.custard_lower.proofs.term.Matching.{Matches}
-use Rattle.custard_lower.proofs.term.Asked.{asked-has, spared-lacks, haves-below, asked-in, spared-in, asked-few, asked-some, asked-mask}
-use Rattle.custard_lower.proofs.laws.ProductTrees.{product_stream}
-use Rattle.custard_lower.proofs.laws.ValueLaws.{root-reference}
+use Rattle.label_rules.proofs.term.Matching.{Matches}
+use Rattle.label_rules.proofs.term.Asked.{asked-has, spared-lacks, haves-below, asked-in, spared-in, asked-few, asked-some, asked-mask}
+use Rattle.label_rules.proofs.laws.ProductTrees.{product_stream}
+use Rattle.label_rules.proofs.laws.ValueLaws.{root-reference}
 use Rattle.std.proofs.lemmas.List.{get_or-replicate, length-replicate}
 use Rattle.custard_lower.proofs.term.Nesting.{length-placed}
 use Rattle.custard_lower.proofs.term.LevelSound.{met_mask, Refer, refer-on, Scanned, scans-sound, MetStands, intersects-sound, repeats-sound}

@@ -2,8 +2,8 @@
 use Rattle.std.proofs.Common.{◌≡◌, ◌∙◌, ℕ, ◌+◌, List, [], ◌∷◌, length, length-append, set, refl, add-one}
 use Rattle.std.proofs.Math.ListN.{length-set}
 use Rattle.custard_lower.specs.declared.drafts.Made.{Made}
-use Rattle.custard_lower.specs.declared.plans.Plan.{Plan}
-use Rattle.custard_lower.specs.Plans.{asked, spared}
+use Rattle.label_rules.specs.declared.plans.Plan.{Plan}
+use Rattle.label_rules.specs.Plans.{asked, spared}
 use Rattle.custard_lower.specs.Nests.{Nest, placed, level, nest}
 
 -- numbers that are put at places leave the length as it is

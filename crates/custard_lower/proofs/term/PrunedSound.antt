@@ -17,12 +17,12 @@ use Rattle.stream_model.proofs.Streams.{label_stream-IsStream}
 use Rattle.stream_tokens.specs.Nest.{IsStream}
 use Rattle.graph.specs.declared.graphs.Kind.TheVariants as kind
 use Rattle.custard_lower.specs.declared.drafts.Made.{Made}
-use Rattle.custard_lower.specs.declared.plans.Plan.{Plan}
+use Rattle.label_rules.specs.declared.plans.Plan.{Plan}
 use Rattle.custard_lower.specs.Drafts.{outputs_of}
 use Rattle.custard_lower.specs.Reductions.{Levels, reduced_tree_label, level_at, without_values, drop_fiber, without_fibers, emptied, pruned_below, pruned}
 use Rattle.custard_lower.proofs.draft.Emitted.{Stands, Sound, extends-more, stands-on, all-stand-new, sound-emit}
-use Rattle.custard_lower.proofs.term.Matching.{Matches}
-use Rattle.custard_lower.proofs.laws.DropLaws.{drop-value-gives, drop-fiber-gives}
+use Rattle.label_rules.proofs.term.Matching.{Matches}
+use Rattle.label_rules.proofs.laws.DropLaws.{drop-value-gives, drop-fiber-gives}
 use Rattle.custard_lower.proofs.term.ReducedSound.{tree, LevelsStand}
 
 -- the length from which on level k + 1 is pruned in the end

@@ -20,27 +20,18 @@ use Rattle.stream_model.specs.Reduction.{Reduces}
 use Rattle.stream_model.specs.Labels.{root_shape, reduced_shape, stream_at, label_stream, term_at}
 use Rattle.graph.specs.declared.graphs.Kind.TheVariants as kind
 use Rattle.custard_lower.specs.declared.drafts.Made.{Made}
-use Rattle.custard_lower.specs.declared.plans.Plan.{Plan}
+use Rattle.label_rules.specs.declared.plans.Plan.{Plan}
 use Rattle.custard_lower.specs.Drafts.{outputs_of}
-use Rattle.custard_lower.specs.Reductions.{Levels, reduced_tree_label, unpruned, level_at, left_marks, free_marks, reduce, reduced}
+use Rattle.custard_lower.specs.Reductions.{Levels, reduced_tree_label, unpruned, level_at, reduce, reduced}
+use Rattle.label_rules.specs.Plans.{left_marks}
 use Rattle.custard_lower.proofs.draft.Emitted.{Stands, Sound, extends-more, stands-on, all-stand-new, sound-emit}
-use Rattle.custard_lower.proofs.term.Matching.{Matches}
-use Rattle.custard_lower.proofs.laws.KeptStreams.{coordinates-kept}
-use Rattle.custard_lower.proofs.term.Loops.{levels-before, levels-after, levels-reduced}
-use Rattle.custard_lower.proofs.laws.SumScalarLaw.{sum-scalar-gives, sum-scalar-root}
-use Rattle.custard_lower.proofs.laws.SumVectorLaw.{sum-vector-gives}
-use Rattle.custard_lower.proofs.laws.SumMatrixLaw.{sum-matrix-gives}
-
-marks_kept : (loops : List Loop) → left_marks (map (λ (l : Loop). l.1) loops) ≡ length (kept_sizes loops)
-marks_kept [] = refl
-marks_kept ((s, true) ∷ loops) = ap suc (marks_kept loops)
-marks_kept ((s, false) ∷ loops) = marks_kept loops
-
--- the marks of the loops count those that are free
-pub free-marks : (loops : List Loop) → free_marks (map (λ (l : Loop). l.1) loops) ≡ free_count loops
-free-marks [] = refl
-free-marks ((s, true) ∷ loops) = free-marks loops
-free-marks ((s, false) ∷ loops) = ap suc (free-marks loops)
+use Rattle.label_rules.proofs.term.Matching.{Matches}
+use Rattle.label_rules.proofs.term.Marks.{left-marks, free-marks}
+use Rattle.label_rules.proofs.laws.KeptStreams.{coordinates-kept}
+use Rattle.label_rules.proofs.term.Loops.{levels-before, levels-after, levels-reduced}
+use Rattle.label_rules.proofs.laws.SumScalarLaw.{sum-scalar-gives, sum-scalar-root}
+use Rattle.label_rules.proofs.laws.SumVectorLaw.{sum-vector-gives}
+use Rattle.label_rules.proofs.laws.SumMatrixLaw.{sum-matrix-gives}
 
 module _ (p : Program) (es : List Entries) (storages : List Ranked) (term : ℕ) (plan : Plan)
     (m : Matches storages (term_at p es term) plan) where
@@ -370,7 +361,7 @@ module _ (p : Program) (es : List Entries) (storages : List Ranked) (term : ℕ)
       let r : Reduces t before s after (free_count after) = record { loops_are = e; gone = refl; few = m.few_loops } in
       subst (λ (g : ℕ). LevelsStand (suc (free_count after)) (reduce term g (left_marks (map (λ (l : Loop). l.1) after)) l'))
       (sym (free-marks after))
-      (subst (λ (k : ℕ). LevelsStand (suc (free_count after)) (reduce term (free_count after) k l')) (sym (marks_kept after))
+      (subst (λ (k : ℕ). LevelsStand (suc (free_count after)) (reduce term (free_count after) k l')) (sym (left-marks after))
       (reduce_stands before s after (free_count after) r l' rest (length (kept_sizes after)) refl (m.shallow before s after e)))
 
   -- the levels of the whole term stand, and so do those that are left

@@ -13,19 +13,21 @@ use Rattle.stream_model.specs.Trees.{free_count, reduced_sizes}
 use Rattle.stream_model.specs.Labels.{root_shape, stream_at, label_stream, term_at}
 use Rattle.stream_model.proofs.Streams.{stream_at-IsStream}
 use Rattle.custard_lower.specs.declared.drafts.Made.{Made}
-use Rattle.custard_lower.specs.declared.plans.Plan.{Plan}
+use Rattle.label_rules.specs.declared.plans.Plan.{Plan}
 use Rattle.custard_lower.specs.Nests.{Nest, nest}
 use Rattle.custard_lower.specs.Values.{Valued, valued}
-use Rattle.custard_lower.specs.Reductions.{Levels, reduced, pruned, free_marks}
+use Rattle.custard_lower.specs.Reductions.{Levels, reduced, pruned}
+use Rattle.label_rules.specs.Plans.{free_marks}
 use Rattle.custard_lower.specs.Lowering.{root, summed_levels, term_levels}
 use Rattle.custard_lower.proofs.draft.Emitted.{Stands, Sound, stands-on, stands-new, sound-emit}
-use Rattle.custard_lower.proofs.term.Matching.{Matches}
-use Rattle.custard_lower.proofs.laws.ValueLaws.{root-gives}
-use Rattle.custard_lower.proofs.laws.KeptStreams.{coordinates-whole, values-whole}
-use Rattle.custard_lower.proofs.term.Loops.{levels-whole, levels-few}
+use Rattle.label_rules.proofs.term.Matching.{Matches}
+use Rattle.label_rules.proofs.laws.ValueLaws.{root-gives}
+use Rattle.label_rules.proofs.laws.KeptStreams.{coordinates-whole, values-whole}
+use Rattle.label_rules.proofs.term.Loops.{levels-whole, levels-few}
 use Rattle.custard_lower.proofs.term.NestSound.{NestStands, nest-stands}
 use Rattle.custard_lower.proofs.term.ValuesSound.{ValueStands, valued-stands}
-use Rattle.custard_lower.proofs.term.ReducedSound.{LevelsStand, tree, reduced-stands, free-marks}
+use Rattle.custard_lower.proofs.term.ReducedSound.{LevelsStand, tree, reduced-stands}
+use Rattle.label_rules.proofs.term.Marks.{free-marks}
 use Rattle.custard_lower.proofs.term.PrunedSound.{PrunedStand, pruned-stands}
 
 module _ (p : Program) (es : List Entries) (storages : List Ranked) (term : ℕ) (plan : Plan)

@@ -24,17 +24,17 @@ use Rattle.block_core.specs.Kind.{ArrayKind, AluKind, ConstKind}
 use Rattle.block_core.proofs.Given.{Gives}
 use Rattle.graph.specs.Meaning.{stored_at}
 use Rattle.custard_lower.specs.declared.drafts.Made.{Made}
-use Rattle.custard_lower.specs.declared.plans.Plan.{Plan}
+use Rattle.label_rules.specs.declared.plans.Plan.{Plan}
 use Rattle.custard_lower.specs.Drafts.{outputs_of}
-use Rattle.custard_lower.specs.Masks.{factors_mask}
-use Rattle.custard_lower.specs.Plans.{plan_access, asked}
+use Rattle.label_rules.specs.Masks.{factors_mask}
+use Rattle.label_rules.specs.Plans.{plan_access, asked}
 use Rattle.custard_lower.specs.Values.{Valued, full_label, array, product, multiplied, constant, scaling, scaled, valued}
 use Rattle.custard_lower.proofs.draft.Emitted.{Stands, AllStand, Sound, Extends, extends-more, extends-both, stands-on, all-stand-on, all-stand-new, sound-emit, outputs-emit}
-use Rattle.custard_lower.proofs.term.Matching.{Matches, IsCoefficient}
-use Rattle.custard_lower.proofs.term.Asked.{asked-mask}
-use Rattle.custard_lower.proofs.laws.ProductTrees.{product_stream}
-use Rattle.custard_lower.proofs.laws.ArrayLaw.{array-law}
-use Rattle.custard_lower.proofs.laws.ValueLaws.{first-partial, product-gives, constant-gives, whole-gives, whole-is-partial}
+use Rattle.label_rules.proofs.term.Matching.{Matches, IsCoefficient}
+use Rattle.label_rules.proofs.term.Asked.{asked-mask}
+use Rattle.label_rules.proofs.laws.ProductTrees.{product_stream}
+use Rattle.label_rules.proofs.laws.ArrayLaw.{array-law}
+use Rattle.label_rules.proofs.laws.ValueLaws.{first-partial, product-gives, constant-gives, whole-gives, whole-is-partial}
 use Rattle.custard_lower.proofs.term.LevelSound.{Refer, refer-on}
 
 module _ (p : Program) (es : List Entries) (storages : List Ranked) (term : ℕ) (plan : Plan)

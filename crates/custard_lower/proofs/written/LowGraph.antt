@@ -12,11 +12,11 @@ use Rattle.graph.specs.declared.graphs.Graph.{Graph}
 use Rattle.graph.specs.Wiring.{WellFormed}
 use Rattle.graph.specs.Assembly.{FewPayloads}
 use Rattle.custard_lower.specs.DraftGraph.{graph_of, ReadsWithin}
-use Rattle.custard_lower.specs.Plans.{plan_of}
+use Rattle.label_rules.specs.Plans.{plan_of}
 use Rattle.custard_lower.specs.Reductions.{Levels}
 use Rattle.custard_lower.specs.Lowering.{root, term_levels, first_level_tree, with_terms, with_writers, draft_of, program_draft}
 use Rattle.custard_lower.specs.Lowered.{low, Carries, Lowered}
-use Rattle.custard_lower.proofs.term.SmallPlans.{some_term}
+use Rattle.label_rules.proofs.term.SmallPlans.{some_term}
 use Rattle.custard_lower.proofs.written.ResultGraph.{ResultStands, result-carries, result-formed, result-few, result-reads}
 use Rattle.custard_lower.proofs.join.AllTerms.{terms-stand}
 

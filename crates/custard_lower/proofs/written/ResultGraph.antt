@@ -27,7 +27,8 @@ use Rattle.custard_lower.specs.DraftGraph.{graph_of, made_at, ReadsWithin}
 use Rattle.custard_lower.proofs.draft.SmallGraphs.{reads-of-typed}
 use Rattle.custard_lower.specs.Reductions.{Levels}
 use Rattle.custard_lower.specs.Lowering.{with_writers}
-use Rattle.custard_lower.specs.Lowered.{storages_of, Carries}
+use Rattle.custard_lower.specs.Lowered.{Carries}
+use Rattle.label_rules.specs.Storages.{storages_of}
 use Rattle.custard_lower.proofs.draft.Emitted.{at, Stands, Sound, stands-on}
 use Rattle.custard_lower.proofs.draft.Typed.{Typed}
 use Rattle.custard_lower.proofs.written.WritersSound.{Writable, written-typed, level-block, value-block, written-number, level-first, value-first, written-extends}

@@ -10,17 +10,12 @@ use lib.ListN.{get_or-append}
 use lib.Seq.{get_or-append_seam}
 use Rattle.stream_tokens.specs.declared.Token.{Token}
 use Rattle.stream_tokens.specs.Nest.{IsStream}
-use Rattle.stream_tokens.specs.Shapes.{Positive}
 use Rattle.sam_model.specs.Children.{Ranked}
 use Rattle.sam_model.specs.Lists.{below}
-use Rattle.stream_model.specs.declared.labels.Attr.TheVariants.{Coordinate}
 use Rattle.stream_model.specs.declared.labels.Label.{Label}
-use Rattle.stream_model.specs.Labels.{Shape, stream_at}
-use Rattle.stream_model.specs.Grow.{path_fibers}
-use Rattle.stream_model.proofs.Streams.{stream_at-IsStream}
 use Rattle.block_core.specs.Kind.{WriteLevelKind}
 use Rattle.block_core.specs.Ports.{AllStreams}
-use Rattle.block_core.proofs.Given.{Gives, writelevel-gives, writevalue-gives}
+use Rattle.block_core.proofs.Given.{Gives, writevalue-gives}
 use Rattle.graph.specs.declared.graphs.Kind.{Kind}
 use Rattle.graph.specs.declared.graphs.Kind.TheVariants as kind
 use Rattle.graph.specs.Writers.{writes_level, writes_values}
@@ -31,16 +26,6 @@ use Rattle.custard_lower.specs.Reductions.{Levels}
 use Rattle.custard_lower.specs.Lowering.{level_writer, value_writer, with_writers}
 use Rattle.custard_lower.proofs.draft.Emitted.{at, Stands, Sound, Quiet, is_writer, Extends, extends-same, extends-more, extends-both, stands-on, typed-emit, flowing-emit}
 use Rattle.custard_lower.proofs.draft.Typed.{Typed}
-use Rattle.custard_lower.proofs.laws.Following.{coordinates-written, paths-positive}
-
--- a level's coordinates are written
-pub level-written : (level : ℕ) (s : Shape) (d : ℕ) → s.depth ≡ suc d → s.depth ≤ 200
-    → Gives (WriteLevelKind level) (stream_at s Coordinate ∷ []) []
-level-written level s d e few =
-    subst (λ (x : List Token). Gives (WriteLevelKind level) (x ∷ []) []) (sym (coordinates-written s))
-    (writelevel-gives level _ (path_fibers s.ok s.sizes s.depth)
-    (subst (λ (n : ℕ). Positive (path_fibers s.ok s.sizes n)) (sym e) (paths-positive s.ok s.sizes d))
-    (subst (λ (x : List Token). AllStreams (x ∷ [])) (coordinates-written s) (stream_at-IsStream s Coordinate few, tt)))
 
 module _ (stream : Label → List Token) (storages : List Ranked) (l : Levels) (sound : Sound stream storages l.made) where
   abbrev writers : List ℕ → List Made

@@ -20,7 +20,7 @@ use Rattle.stream_model.proofs.Denoted.{join-denotes}
 use Rattle.stream_model.proofs.Sides.{joined-all}
 use Rattle.stream_model.proofs.Results.{accepted-sized, length-summands, result-paths, result-values}
 use Rattle.stream_model.proofs.Fills.{join-goes-on}
-use Rattle.custard_lower.proofs.laws.JoinSides.{joined-root}
+use Rattle.label_rules.proofs.laws.JoinSides.{joined-root}
 use Rattle.custard_lower.proofs.written.WrittenLevels.{prefixes_at, level_ends, tree_written}
 use Rattle.custard_lower.proofs.written.WrittenStreams.{coordinates-listed, GoesOn, first-ends, full-ends}
 use Rattle.custard_lower.proofs.written.WrittenEntries.{ListsResult, streams-tree, entries-values, tree-entries, leaf-entries}

@@ -1,5 +1,5 @@
 use Rattle.std.proofs.Common.{◌≡◌, drop}
-use Rattle.custard_lower.specs.Masks.{mask_with, factors_mask}
+use Rattle.label_rules.specs.Masks.{mask_with, factors_mask}
 use Rattle.custard_lower.proofs.nests.mask_number.Given as goal
 
 abbrev pub invariant-loop-f : goal.invariant-loop-f

@@ -1,5 +1,5 @@
 use Rattle.std.proofs.Common.{◌≡◌, ◌≤◌, ◌+◌, drop}
-use Rattle.custard_lower.specs.Reductions.{free_marks}
+use Rattle.label_rules.specs.Plans.{free_marks}
 use Rattle.custard_lower.proofs.reductions.free_loops.Given as goal
 
 abbrev pub invariant-loop-mark : goal.invariant-loop-mark

@@ -7,7 +7,7 @@ use Rattle.stream_model.specs.declared.labels.Label.{Label}
 use Rattle.graph.specs.declared.graphs.Channel.{Channel}
 use Rattle.custard_lower.specs.declared.fans.Fan.{Fan}
 use Rattle.custard_lower.specs.declared.fans.Read.{Read}
-use Rattle.custard_lower.specs.Drafts.{no_label}
+use Rattle.label_rules.specs.Labels.{no_label}
 use Rattle.custard_lower.specs.Fans.{no_fan, fan_taker, channel_from}
 use Rattle.custard_lower.specs.DraftFans.{fan_at, port_channel}
 use Rattle.custard_lower.proofs.draft.Pushes.{item-pushed}

@@ -1,5 +1,6 @@
 use Rattle.std.proofs.Common.{◌≡◌, ◌+◌, drop, length}
-use Rattle.custard_lower.specs.Reductions.{left_marks, free_marks, reduced}
+use Rattle.custard_lower.specs.Reductions.{reduced}
+use Rattle.label_rules.specs.Plans.{left_marks, free_marks}
 use Rattle.custard_lower.proofs.reductions.Levels.reduced.Given as goal
 
 abbrev pub invariant-loop-i : goal.invariant-loop-i

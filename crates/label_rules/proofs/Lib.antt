@@ -1,0 +1,4 @@
+mod Worked
+pub mod laws
+pub mod term
+pub mod rules

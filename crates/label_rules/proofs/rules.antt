@@ -1,0 +1,12 @@
+pub mod Exact
+pub mod Arity
+pub mod Holding
+pub mod TermRules
+pub mod KeptSame
+pub mod SumRule
+pub mod DropRules
+pub mod SpaceRules
+pub mod ValueRules
+pub mod JoinRules
+pub mod FillRules
+pub mod Sound

@@ -1,0 +1,9 @@
+pub mod Literals
+pub mod MaskNumbers
+pub mod SmallPlans
+pub mod Masked
+pub mod Matching
+pub mod Asked
+pub mod Loops
+pub mod PlanMatches
+pub mod Marks

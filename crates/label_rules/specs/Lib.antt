@@ -1,0 +1,10 @@
+pub mod Labels
+pub mod Storages
+pub mod Masks
+pub mod Plans
+pub mod Named
+pub mod TermLabels
+pub mod JoinLabels
+pub mod Rules
+pub mod Holding
+pub mod Laws
