@@ -1,13 +1,15 @@
 -- Lines and words, by the places where they begin and end.
-use Rattle.std.proofs.Common.{◌≡◌, ℕ, zero, suc, ◌+◌, ◌<◌, ◌≤◌, List, [], ◌∷◌, length, take, drop, slice_range, ◌-◌, Bool, true, false, not, cond, refl, sym, ap, ◌∙◌, arith, filter}
+use Rattle.std.proofs.Common.{◌≡◌, ℕ, zero, suc, ◌+◌, ◌<◌, ◌≤◌, List, [], ◌∷◌, length, get_or, take, drop, slice_range, ◌-◌, Bool, true, false, not, cond, refl, sym, ap, ◌∙◌, arith, filter}
 use Rattle.std.proofs.Math.Numerals.{one-add}
 use Rattle.std.proofs.Math.Seq.{drop-length}
 use Rattle.std.proofs.lemmas.List.{take-take, drop-drop, length-take, length-drop, drop_all}
+use Rattle.std.proofs.lemmas.Bool.{and_parts}
+use Rattle.std.proofs.lemmas.Bool.Decides.{nat_tests}
 use Rattle.std.proofs.lemmas.List.Sums.{prefix_len-le-length}
 use Rattle.std.proofs.lemmas.Slice.{between_is}
 use Rattle.std.proofs.lemmas.List.Splits.{slice_split-cons_yes, slice_split-cons_no}
-use Rattle.std.specs.List.{prefix_len, position_or_len, onto_first, slice_split}
-use Rattle.sam_text.specs.Bytes.{is_newline, is_gap}
+use Rattle.std.specs.List.{list_all, prefix_len, position_or_len, onto_first, slice_split}
+use Rattle.sam_text.specs.Bytes.{is_digit, is_newline, is_gap}
 use Rattle.sam_text.specs.Lines.{lines}
 use Rattle.sam_text.specs.Words.{has_bytes, words}
 
@@ -146,3 +148,25 @@ pub no_word : (text : List ℕ) (from to gaps : ℕ) → from ≤ to → to ≤ 
 no_word text from to gaps h k e last =
     let whole = length-part text from to h k in
     words_of_gaps (slice_range text from to) (omega (arith, e))
+
+-- ---- a word of digits
+
+digit-no-gap : (b : ℕ) → is_digit b ≡ true → is_gap b ≡ false
+digit-no-gap b h = grind (arith, nat_tests)
+
+-- digits up to a gap, or up to the end, are the first word
+pub digits-end : (n : ℕ) (bs : List ℕ) → n ≤ length bs → list_all is_digit (take n bs) ≡ true → (n < length bs → is_gap (get_or bs n 0) ≡ true) → position_or_len is_gap bs ≡ n
+digits-end zero [] h all ends = refl
+digits-end zero (b ∷ bs) h all ends = rw (ends (omega arith)) refl
+digits-end (suc n) [] h all ends = absurd (omega arith)
+digits-end (suc n) (b ∷ bs) h all ends =
+    let parts = and_parts _ _ all in
+    let rest = digits-end n bs (omega arith) parts.1 (λ l. ends (omega arith)) in
+    rw (digit-no-gap b parts.0, rest) (omega arith)
+
+pub digits-first : (n : ℕ) (bs : List ℕ) → 0 < n → n ≤ length bs → list_all is_digit (take n bs) ≡ true → (n < length bs → is_gap (get_or bs n 0) ≡ true)
+    → words bs ≡ take n bs ∷ words (drop n bs)
+digits-first n bs some h all ends =
+    let e = digits-end n bs h all ends in
+    let w = words_by bs (omega arith) (omega arith) in
+    w ∙ ap (λ k. take k bs ∷ words (drop k bs)) e

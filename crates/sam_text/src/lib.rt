@@ -2,12 +2,14 @@
 #![tactic(auto)]
 
 mod bytes;
+mod decimals;
 mod lines;
 mod numbers;
 mod places;
 mod words;
 
 pub use bytes::{is_blank, is_digit, is_letter, is_name, is_name_byte};
+pub use decimals::first_decimal;
 pub use lines::{Line, Lines};
 pub use numbers::{NumFault, read_u64};
 pub use places::{line_at, word_at};

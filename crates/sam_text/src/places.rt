@@ -16,7 +16,7 @@ fn line_length(bytes: &[u8]) -> usize
 }
 
 /// How many gaps stand at the beginning.
-fn gap_length(bytes: &[u8]) -> usize
+pub(crate) fn gap_length(bytes: &[u8]) -> usize
     ensures { result ≡ prefix_len is_gap bytes.now }
 {
     bytes.iter().take_while(|byte| is_gap(**byte)).count()
