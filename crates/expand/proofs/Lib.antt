@@ -1,0 +1,14 @@
+pub mod Laws
+pub mod Over
+pub mod Counted
+pub mod Factors
+pub mod Expanded
+pub mod Order
+pub mod Tuples
+pub mod Scoped
+pub mod Own
+pub mod Lawful
+pub mod Places
+pub mod Kept
+pub mod MapInPlace
+pub mod Lengths

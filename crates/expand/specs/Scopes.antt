@@ -1,0 +1,58 @@
+-- Which variables stand where in an expression, and which top-level terms fit a left side.
+use Rattle.std.specs.Prelude.{ℕ, Bool, not, ◌&&◌, List, [], ◌∷◌, ◌++◌, eqb, nat_lt}
+use Rattle.std.specs.List.{filter, list_all}
+use Rattle.sam_model.specs.declared.expressions.Expr.{Expr}
+use Rattle.sam_model.specs.declared.expressions.Expr.TheVariants.{Access, Literal, Times', Plus', Minus', Negate', Sum'}
+use Rattle.sam_model.specs.declared.expressions.Top.{Top}
+use Rattle.sam_model.specs.Lists.{below, is_in, same_list}
+use Rattle.sam_model.specs.Accepted.{distinct}
+
+-- the variables of the sums in an expression, an inner one before an outer one
+abbrev pub bound_vars : Expr → List ℕ
+bound_vars (Access n vars) = []
+bound_vars (Literal n) = []
+bound_vars (Times' p a q b) = bound_vars a ++ bound_vars b
+bound_vars (Plus' p a q b) = bound_vars a ++ bound_vars b
+bound_vars (Minus' p a q b) = bound_vars a ++ bound_vars b
+bound_vars (Negate' p a) = bound_vars a
+bound_vars (Sum' k p a) = bound_vars a ++ k ∷ []
+
+-- the variables of its accesses
+abbrev pub used_vars : Expr → List ℕ
+used_vars (Access n vars) = vars
+used_vars (Literal n) = []
+used_vars (Times' p a q b) = used_vars a ++ used_vars b
+used_vars (Plus' p a q b) = used_vars a ++ used_vars b
+used_vars (Minus' p a q b) = used_vars a ++ used_vars b
+used_vars (Negate' p a) = used_vars a
+used_vars (Sum' k p a) = used_vars a
+
+-- those of them that stand outside every sum over them
+abbrev pub free_vars : Expr → List ℕ
+free_vars (Access n vars) = vars
+free_vars (Literal n) = []
+free_vars (Times' p a q b) = free_vars a ++ free_vars b
+free_vars (Plus' p a q b) = free_vars a ++ free_vars b
+free_vars (Minus' p a q b) = free_vars a ++ free_vars b
+free_vars (Negate' p a) = free_vars a
+free_vars (Sum' k p a) = filter (λ v. not (eqb v k)) (free_vars a)
+
+-- no variable of the first is among the second
+abbrev pub are_apart : List ℕ → List ℕ → Bool
+are_apart vs ws = list_all (λ v. not (is_in v ws)) vs
+
+-- each is one of so many variables
+abbrev pub are_in_range : ℕ → List ℕ → Bool
+are_in_range count vs = list_all (λ v. nat_lt v count) vs
+
+-- the implied variables, ascending: those of its accesses that are neither on the left nor those of a sum in it
+abbrev pub implied_of : ℕ → List ℕ → Expr → List ℕ
+implied_of count left e = filter (λ v. is_in v (used_vars e) && (not (is_in v left) && not (is_in v (bound_vars e)))) (below count)
+
+-- The variables are in range. That of a sum is that of no other sum, isn't on the left, and stands only inside its sum. The
+-- implied variables are those that are to be implied.
+abbrev pub top_fits : ℕ → List ℕ → Top → Bool
+top_fits count left t =
+    are_in_range count (used_vars t.body) && (are_in_range count (bound_vars t.body) && (distinct (bound_vars t.body)
+    && (are_apart (bound_vars t.body) left && (are_apart (bound_vars t.body) (free_vars t.body)
+    && same_list t.implied (implied_of count left t.body)))))
