@@ -1,5 +1,5 @@
 -- Lines and words, by the places where they begin and end.
-use Rattle.std.proofs.Common.{◌≡◌, ℕ, zero, suc, ◌+◌, ◌<◌, ◌≤◌, List, [], ◌∷◌, length, get_or, take, drop, slice_range, ◌-◌, Bool, true, false, not, cond, refl, sym, ap, ◌∙◌, arith, filter}
+use Rattle.std.proofs.Common.{◌≡◌, ℕ, zero, suc, ◌+◌, ◌<◌, ◌≤◌, List, [], ◌∷◌, length, get_or, take, drop, slice_range, ◌-◌, Bool, true, false, not, cond, refl, subst, sym, ap, ◌∙◌, arith, filter}
 use Rattle.std.proofs.Math.Numerals.{one-add}
 use Rattle.std.proofs.Math.Seq.{drop-length}
 use Rattle.std.proofs.lemmas.List.{take-take, drop-drop, length-take, length-drop, drop_all}
@@ -11,7 +11,7 @@ use Rattle.std.proofs.lemmas.List.Splits.{slice_split-cons_yes, slice_split-cons
 use Rattle.std.specs.List.{list_all, prefix_len, position_or_len, onto_first, slice_split}
 use Rattle.sam_text.specs.Bytes.{is_digit, is_newline, is_gap}
 use Rattle.sam_text.specs.Lines.{lines}
-use Rattle.sam_text.specs.Words.{has_bytes, words}
+use Rattle.sam_text.specs.Words.{has_bytes, words, behind_gaps, begins_comment, is_skipped}
 
 -- a line, by the number of bytes before its newline
 lines-step : (t : Bool) (b : ℕ) (bs : List ℕ) (n : ℕ) → (0 < length bs → lines bs ≡ take n bs ∷ lines (drop (suc n) bs)) → (length bs ≡ 0 → n ≡ 0)
@@ -170,3 +170,27 @@ digits-first n bs some h all ends =
     let e = digits-end n bs h all ends in
     let w = words_by bs (omega arith) (omega arith) in
     w ∙ ap (λ k. take k bs ∷ words (drop k bs)) e
+
+-- ---- a line that is skipped
+
+front-begins : (n : ℕ) (b : ℕ) (bs : List ℕ) (more : List (List ℕ)) → 0 < n → is_skipped (take n (b ∷ bs) ∷ more) ≡ begins_comment (b ∷ bs)
+front-begins zero b bs more h = absurd (omega arith)
+front-begins (suc n) b bs more h = refl
+
+gaps-short : (line : List ℕ) (b : ℕ) (bs : List ℕ) → behind_gaps line ≡ b ∷ bs → prefix_len is_gap line < length line
+gaps-short line b bs e =
+    let long = ap length e in
+    let some : 0 < length (drop (prefix_len is_gap line) line) = omega arith in
+    omega (arith, some, length-drop (prefix_len is_gap line) line)
+
+-- what stands behind the gaps tells whether a line is skipped
+pub skipped-none : (line rest : List ℕ) → rest ≡ behind_gaps line → length rest ≡ 0 → is_skipped (words line) ≡ true
+skipped-none line [] e h = ap is_skipped (words_past_gaps line ∙ ap words (sym e))
+skipped-none line (b ∷ bs) e h = absurd (omega arith)
+
+pub skipped-some : (line rest : List ℕ) → rest ≡ behind_gaps line → (length rest ≡ 0 → ⊥) → is_skipped (words line) ≡ begins_comment rest
+skipped-some line [] e h = absurd (h refl)
+skipped-some line (b ∷ bs) e h =
+    let some : 0 < position_or_len is_gap (b ∷ bs) = subst (λ (rest : List ℕ). 0 < position_or_len is_gap rest) (sym e) (word_begins line (gaps-short line b bs (sym e))) in
+    ap is_skipped (words_past_gaps line ∙ ap words (sym e) ∙ words_by (b ∷ bs) some (omega arith))
+    ∙ front-begins (position_or_len is_gap (b ∷ bs)) b bs (words (drop (position_or_len is_gap (b ∷ bs)) (b ∷ bs))) some

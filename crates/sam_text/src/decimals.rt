@@ -4,17 +4,10 @@ ghost use Rattle.std.specs.Prelude.{◌≡◌, ◌≤◌, ℕ, List, ◌∷◌, 
 ghost use Rattle.std.specs.List.{list_all};
 ghost use Rattle.sam_text.specs.Bytes.{is_digit};
 ghost use Rattle.sam_text.specs.Numbers.{decimal, is_decimal};
-ghost use Rattle.sam_text.specs.Words.{behind_gaps, words};
+ghost use Rattle.sam_text.specs.Words.{words};
 
 use crate::bytes::{is_digit, is_gap};
-use crate::places::gap_length;
-
-/// What stands behind the gaps at the beginning.
-fn behind_gaps(line: &[u8]) -> &[u8]
-    ensures { result.now ≡ behind_gaps line.now }
-{
-    &line[gap_length(line)..]
-}
+use crate::places::behind_gaps;
 
 /// The number that the digits at the beginning spell, with how many they are, where it is less than 2^64-8.
 fn leading_number(word: &[u8]) -> Option<(u64, usize)>

@@ -4,7 +4,7 @@ ghost use Rattle.std.specs.Prelude.{◌≡◌, ◌+◌, ◌-◌, ◌≤◌, ◌<
 ghost use Rattle.std.specs.List.{prefix_len, position_or_len};
 ghost use Rattle.sam_text.specs.Bytes.{is_newline, is_gap};
 ghost use Rattle.sam_text.specs.Lines.{lines};
-ghost use Rattle.sam_text.specs.Words.{words};
+ghost use Rattle.sam_text.specs.Words.{behind_gaps, words};
 
 use crate::bytes::is_gap;
 
@@ -16,7 +16,7 @@ fn line_length(bytes: &[u8]) -> usize
 }
 
 /// How many gaps stand at the beginning.
-pub(crate) fn gap_length(bytes: &[u8]) -> usize
+fn gap_length(bytes: &[u8]) -> usize
     ensures { result ≡ prefix_len is_gap bytes.now }
 {
     bytes.iter().take_while(|byte| is_gap(**byte)).count()
@@ -27,6 +27,13 @@ fn word_length(bytes: &[u8]) -> usize
     ensures { result ≡ position_or_len is_gap bytes.now }
 {
     bytes.iter().take_while(|byte| !is_gap(**byte)).count()
+}
+
+/// What stands behind the gaps at the beginning.
+pub(crate) fn behind_gaps(line: &[u8]) -> &[u8]
+    ensures { result.now ≡ behind_gaps line.now }
+{
+    &line[gap_length(line)..]
 }
 
 /// The end of the line that starts at `from`, and the start of the next line.

@@ -3,7 +3,7 @@
 ghost use Rattle.std.specs.Prelude.{◌≡◌, ◌<◌, [], ◌∷◌, length, MatchOption, IfSome};
 ghost use Rattle.sam_text.specs.Words.{words, behind_word, begins_comment, is_skipped};
 
-use crate::places::word_at;
+use crate::places::{behind_gaps, word_at};
 
 /// The first word of a line, and what stands behind it.
 pub fn first_word(line: &[u8]) -> Option<(&[u8], &[u8])>
@@ -30,8 +30,6 @@ fn begins_comment(word: &[u8]) -> bool
 pub fn is_skipped(line: &[u8]) -> bool
     ensures { result ≡ is_skipped (words line.now) }
 {
-    match first_word(line) {
-        None => true,
-        Some((word, _)) => begins_comment(word),
-    }
+    let rest = behind_gaps(line);
+    rest.is_empty() || begins_comment(rest)
 }

@@ -20,13 +20,12 @@ returns c =
       | else-count-word w ↦ absurd (omega arith)
     ] in
     let rest : take (length c.behind_gaps-word.result.now - c.in_ok-number.count) (drop c.in_ok-number.count c.behind_gaps-word.result.now) ≡ drop c.in_ok-number.count c.behind_gaps-word.result.now
-    = take_all (length c.behind_gaps-word.result.now - c.in_ok-number.count) (drop c.in_ok-number.count c.behind_gaps-word.result.now) (omega (arith, length-drop c.in_ok-number.count c.behind_gaps-word.result.now)) in
-    (
+    = take_all (length c.behind_gaps-word.result.now - c.in_ok-number.count) (drop c.in_ok-number.count c.behind_gaps-word.result.now) (omega (arith, length-drop c.in_ok-number.count c.behind_gaps-word.result.now)) in (
       take c.in_ok-number.count c.behind_gaps-word.result.now,
       words_past_gaps c.args.line.now
-      ∙ ap words (sym c.behind_gaps-word.ensures)
-      ∙ digits-first c.in_ok-number.count c.behind_gaps-word.result.now some c.in_ok-number.ensures.within c.in_ok-number.ensures.digits ends
-      ∙ ap (λ tail. take c.in_ok-number.count c.behind_gaps-word.result.now ∷ words tail) (sym rest),
+          ∙ ap words (sym c.behind_gaps-word.ensures)
+          ∙ digits-first c.in_ok-number.count c.behind_gaps-word.result.now some c.in_ok-number.ensures.within c.in_ok-number.ensures.digits ends
+          ∙ ap (λ tail. take c.in_ok-number.count c.behind_gaps-word.result.now ∷ words tail) (sym rest),
       is_decimal-true (take c.in_ok-number.count c.behind_gaps-word.result.now) (let within = c.in_ok-number.ensures.within in omega (arith, within, length-take-le c.in_ok-number.count c.behind_gaps-word.result.now within)) c.in_ok-number.ensures.digits,
       sym c.in_ok-number.ensures.number,
     )
