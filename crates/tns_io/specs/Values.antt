@@ -6,12 +6,12 @@ use Rattle.sam_base.specs.declared.faults.TnsKind.TheVariants.{BadField, Coordin
 use Rattle.sam_text.specs.Bytes.{is_digit}
 use Rattle.sam_text.specs.Numbers.{is_decimal, decimal}
 
--- a coordinate in a mode of this size: a decimal from 1 to the size stands for a coordinate from 0
+-- a coordinate in a mode of this size: a number from 1 to the size stands for a coordinate from 0
+abbrev pub number_coordinate : ℕ → ℕ → Result ℕ TnsKind
+number_coordinate size n = if nat_le 1 n && nat_le n size then Ok (n - 1) else Err CoordinateRange
+
 abbrev pub word_coordinate : ℕ → List ℕ → Result ℕ TnsKind
-word_coordinate size word =
-    if is_decimal word
-    then (if nat_le 1 (decimal word) && nat_le (decimal word) size then Ok (decimal word - 1) else Err CoordinateRange)
-    else Err BadField
+word_coordinate size word = if is_decimal word then number_coordinate size (decimal word) else Err BadField
 
 abbrev pub is_point : ℕ → Bool
 is_point b = b == 46

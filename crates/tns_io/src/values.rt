@@ -3,23 +3,28 @@
 ghost use Rattle.std.specs.Prelude.{◌≡◌};
 ghost use Rattle.std.specs.List.{list_all, position_or_len, after_first};
 ghost use Rattle.sam_text.specs.Bytes.{is_digit};
-ghost use Rattle.tns_io.specs.Values.{is_point, is_zero, is_minus, unsigned, signed_value, word_coordinate, word_value};
+ghost use Rattle.tns_io.specs.Values.{is_point, is_zero, is_minus, unsigned, signed_value, number_coordinate, word_coordinate, word_value};
 
 use sam_base::TnsKind;
 use sam_text::{NumFault, is_digit, read_u64};
+
+/// The coordinate, from 0, that a number stands for in a mode of this size.
+pub fn coordinate_of(number: u64, size: u64) -> Result<u64, TnsKind>
+    ensures { result ≡ number_coordinate size number }
+{
+    if 1 <= number && number <= size {
+        Ok(number - 1)
+    } else {
+        Err(TnsKind::CoordinateRange)
+    }
+}
 
 /// The coordinate that a word stands for, from 0, in a mode of this size.
 pub fn read_coordinate(word: &[u8], size: u64) -> Result<u64, TnsKind>
     ensures { result ≡ word_coordinate size word.now }
 {
     match read_u64(word, 0, word.len()) {
-        Ok(number) => {
-            if 1 <= number && number <= size {
-                Ok(number - 1)
-            } else {
-                Err(TnsKind::CoordinateRange)
-            }
-        }
+        Ok(number) => coordinate_of(number, size),
         Err(NumFault::NumberTooLarge(_)) => Err(TnsKind::CoordinateRange),
         Err(NumFault::BadNumber(_)) => Err(TnsKind::BadField),
     }
@@ -82,7 +87,7 @@ fn are_zeros(bytes: &[u8]) -> bool
 }
 
 /// A number with its sign, modulo 2^64.
-fn keep(minus: bool, number: u64) -> Result<u64, TnsKind>
+pub fn keep(minus: bool, number: u64) -> Result<u64, TnsKind>
     ensures { result ≡ signed_value minus number }
 {
     if !minus {
