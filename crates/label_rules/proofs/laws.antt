@@ -25,3 +25,5 @@ pub mod JoinSides
 pub mod FillLaw
 pub mod FillSides
 pub mod WriterLaw
+pub mod MergeSides
+pub mod MergeLaws

@@ -1,28 +1,34 @@
--- An array gives the values of an access after the last loop, from its ranks.
-use Rattle.std.specs.Prelude.{◌≡◌, ◌<◌, ℕ, true, List, [], ◌∷◌, length}
+-- An array gives the values of an access after the last loop, from its ranks, beneath any prefixes.
+use Rattle.std.specs.Prelude.{◌≡◌, ◌<◌, ◌≤◌, ℕ, Bool, true, false, cond, List, [], ◌∷◌, length, Some, None, refl}
 use mathlib.Core.List.{map}
 use Rattle.std.proofs.Common.{arith, sym, ◌∙◌, ap, subst}
-use Rattle.std.proofs.lemmas.List.{length-map}
 use Rattle.sam_model.specs.Lists.{within}
 use Rattle.sam_model.specs.Tensors.{Stored, is_stored, stored_prefixes, value_at}
-use Rattle.sam_model.specs.Children.{Ranked, ranked, values_of}
+use Rattle.sam_model.specs.Children.{values_of, Ranked, ranked}
+use Rattle.std.proofs.lemmas.List.{length-map}
 use Rattle.stream_tokens.specs.declared.Token.{Token}
-use Rattle.stream_tokens.specs.declared.Token.TheVariants.{Item}
-use Rattle.stream_tokens.specs.Nest.{IsStream}
-use Rattle.stream_tokens.specs.Flat.{flat}
+use Rattle.stream_tokens.specs.Shapes.{EachToken}
 use Rattle.block_core.specs.Change.{on_item, referenced_value}
 use Rattle.block_core.specs.Kind.{ArrayKind}
 use Rattle.block_core.proofs.Given.{Gives, array-gives}
-use Rattle.stream_model.specs.declared.labels.Attr.TheVariants.{Rank, FactorValue}
+use Rattle.stream_model.specs.Grow.{path_fibers}
 use Rattle.stream_model.specs.Terms.{TermData, restricted, access_at}
-use Rattle.stream_model.specs.Labels.{loop_sizes, product_shape}
-use Rattle.stream_model.specs.Masks.{final, levels_before, AllFit}
+use Rattle.stream_model.specs.Trees.{in_whole}
+use Rattle.stream_model.specs.Labels.{loop_sizes, only_where}
+use Rattle.stream_model.specs.Masks.{levels_before, AllFit, final}
+use Rattle.stream_model.proofs.Grown.{InTree, paths-InTree}
 use Rattle.stream_model.proofs.Prefixes.{access-stored}
 use Rattle.stream_model.proofs.Scans.{keep-length, restricted-within}
-use Rattle.stream_model.proofs.Streams.{stream_at-IsStream}
-use Rattle.label_rules.proofs.laws.ItemStreams.{gives-same, EachToken-imp, flat-ext, changed, all-below}
+use Rattle.label_rules.proofs.laws.ItemStreams.{gives-same, tellings-below, tellings-changed, on_leaf}
 use Rattle.label_rules.proofs.laws.Ranks.{rank-below, at-rank}
-use Rattle.label_rules.proofs.laws.ProductTrees.{product_stream, prefixes, IsPrefix, each-prefix, rank_at, factor_at, final-stream}
+use Rattle.label_rules.proofs.laws.ProductTrees.{rank_at, factor_at, product_stream, product-final}
+use Rattle.stream_model.specs.Tellings.{Prefixes, Telling, told}
+use Rattle.stream_model.proofs.Levels.{told-flows, told-same}
+use Rattle.label_rules.proofs.laws.ScanLaw.{ranks}
+use Rattle.stream_model.specs.declared.labels.Attr.TheVariants.{Rank, FactorValue}
+
+abbrev pub factors : TermData → ℕ → Telling
+factors t f p = Some (factor_at t f p)
 
 module _ (t : TermData) (f : ℕ) (fit : AllFit t) (inside : f < length t.accesses) where
   abbrev tensor : Stored
@@ -31,21 +37,20 @@ module _ (t : TermData) (f : ℕ) (fit : AllFit t) (inside : f < length t.access
   abbrev loops : ℕ
   loops = length t.loops
 
-  module _ (p : List ℕ) (h : IsPrefix t loops p) where
+  module _ (p : List ℕ) (count : length p ≡ loops) (in_range : within (loop_sizes t.loops) p ≡ true) (there : in_whole t p ≡ true) where
     abbrev place : List ℕ
     place = restricted (access_at t.accesses f) p
 
     place_within : within tensor.sizes place ≡ true
-    place_within = restricted-within t f p fit inside h.in_range
+    place_within = restricted-within t f p fit inside in_range
 
     place_stored : is_stored tensor place ≡ true
-    place_stored = access-stored t p f h.passes inside
+    place_stored = access-stored t p f there inside
 
-    -- it has a coordinate for each level of the tensor
     place_full : length place ≡ length tensor.sizes
     place_full =
         keep-length (access_at t.accesses f).has p
-        ∙ ap (levels_before (access_at t.accesses f).has) (h.count ∙ sym (length-map t.loops (λ l. l.0)))
+        ∙ ap (levels_before (access_at t.accesses f).has) (count ∙ sym (length-map t.loops (λ l. l.0)))
         ∙ sym (keep-length (access_at t.accesses f).has (loop_sizes t.loops))
         ∙ ap (λ (sizes : List ℕ). length sizes) (fit f inside)
 
@@ -65,6 +70,55 @@ module _ (t : TermData) (f : ℕ) (fit : AllFit t) (inside : f < length t.access
         ap (λ (vs : List ℕ). referenced_value vs (rank_at t f p)) values_there
         ∙ at-rank (value_at tensor) 0 tensor place place_within place_stored
 
+  -- an array tells the values of an access, where its term has the prefix
+  pub array-below : (ok : List ℕ → Bool) → ok [] ≡ true → loops ≤ 200
+      → Gives (ArrayKind (values_of tensor)) (told (only_where (in_whole t) (ranks t f)) (path_fibers ok (loop_sizes t.loops) loops) ∷ [])
+      (told (only_where (in_whole t) (factors t f)) (path_fibers ok (loop_sizes t.loops) loops) ∷ [])
+  array-below ok root h =
+      gives-same (ArrayKind values) _ _ _ _ refl (ap (λ (s : List Token). s ∷ []) values_are)
+      (array-gives values (told x fs)
+      (tellings-below (length values) x (InTree ok sizes loops) all_inside fs each)
+      (told-flows x ok sizes loops h, tt))
+    where
+      values : List ℕ
+      values = values_of tensor
+
+      sizes : List ℕ
+      sizes = loop_sizes t.loops
+
+      x : Telling
+      x = only_where (in_whole t) (ranks t f)
+
+      fs : Prefixes
+      fs = path_fibers ok sizes loops
+
+      each : EachToken (InTree ok sizes loops) fs
+      each = paths-InTree ok sizes root loops
+
+      all_inside : (p : List ℕ) → InTree ok sizes loops p → (n : ℕ) → x p ≡ Some n → n < length values
+      all_inside p i n = by_case (in_whole t p) refl
+        where
+          by_case : (b : Bool) → in_whole t p ≡ b → cond b (ranks t f p) None ≡ Some n → n < length values
+          by_case true e same =
+              let l = rank_inside p i.count i.in_range e in
+              let k : rank_at t f p ≡ n = cc in
+              omega (arith, l, k)
+          by_case false e same = absurd (cc)
+
+      one : (p : List ℕ) → InTree ok sizes loops p → on_leaf (referenced_value values) (x p) ≡ only_where (in_whole t) (factors t f) p
+      one p i = by_case (in_whole t p) refl
+        where
+          by_case : (b : Bool) → in_whole t p ≡ b → on_leaf (referenced_value values) (cond b (ranks t f p) None) ≡ cond b (factors t f p) None
+          by_case true e = ap Some (value_there p i.count i.in_range e)
+          by_case false e = refl
+
+      values_are : map (on_item (referenced_value values)) (told x fs) ≡ told (only_where (in_whole t) (factors t f)) fs
+      values_are =
+          tellings-changed (referenced_value values) x fs
+          ∙ told-same (λ p. on_leaf (referenced_value values) (x p)) (only_where (in_whole t) (factors t f)) ok sizes loops root one
+
+-- ---- in product trees
+
 -- after the last loop the values of access f stand at its ranks
 pub array-law : (t : TermData) (f : ℕ) (r : Ranked) → AllFit t → length t.loops < 9 → r ≡ ranked (access_at t.accesses f).tensor
     → f < length t.accesses
@@ -72,31 +126,11 @@ pub array-law : (t : TermData) (f : ℕ) (r : Ranked) → AllFit t → length t.
     (product_stream t (length t.loops) (final t (length t.loops)) (Rank f) ∷ [])
     (product_stream t (length t.loops) (final t (length t.loops)) (FactorValue f) ∷ [])
 array-law t f r fit few is_r inside =
+    let m = length t.loops in
     subst (λ (vs : List ℕ). Gives (ArrayKind vs) (product_stream t m (final t m) (Rank f) ∷ [])
     (product_stream t m (final t m) (FactorValue f) ∷ []))
     (ap (λ (s : Ranked). s.values) (sym is_r))
-    (gives-same (ArrayKind stored) _ _ _ _ (ap (λ (s : List Token). s ∷ []) (sym (final-stream t m (Rank f))))
-    (ap (λ (s : List Token). s ∷ []) values_are)
-    (array-gives stored (flat (λ p. Item (rank_at t f p)) (prefixes t m))
-    (all-below (length stored) (rank_at t f) (prefixes t m)
-    (EachToken-imp (IsPrefix t m) (λ p. rank_at t f p < length stored) (rank_inside t f fit inside) (prefixes t m)
-    (each-prefix t m))) (
-      subst IsStream (final-stream t m (Rank f))
-          (stream_at-IsStream (product_shape t m (final t m)) (Rank f) (omega (arith, few))),
-      tt,
-    )))
-  where
-    m : ℕ
-    m = length t.loops
-
-    stored : List ℕ
-    stored = values_of (access_at t.accesses f).tensor
-
-    values_are : map (on_item (referenced_value stored)) (flat (λ p. Item (rank_at t f p)) (prefixes t m))
-        ≡ product_stream t m (final t m) (FactorValue f)
-    values_are =
-        changed (referenced_value stored) (rank_at t f) (prefixes t m)
-        ∙ flat-ext (IsPrefix t m) (λ p. Item (referenced_value stored (rank_at t f p))) (λ p. Item (factor_at t f p))
-        (λ p h. ap Item (value_there t f fit inside p h))
-        (prefixes t m) (each-prefix t m)
-        ∙ sym (final-stream t m (FactorValue f))
+    (gives-same (ArrayKind (values_of (access_at t.accesses f).tensor)) _ _ _ _
+    (ap (λ (s : List Token). s ∷ []) (sym (product-final t m (Rank f) (ranks t f) (λ p. refl))))
+    (ap (λ (s : List Token). s ∷ []) (sym (product-final t m (FactorValue f) (factors t f) (λ p. refl))))
+    (array-below t f fit inside (in_whole t) refl (omega (arith, few))))

@@ -1,36 +1,35 @@
--- What the blocks give that drop coordinates with no value, and then those with nothing beneath: the trees are pruned from
--- one level higher.
-use Rattle.std.specs.Prelude.{◌≡◌, ◌<◌, ◌≤◌, ℕ, zero, suc, Bool, true, false, cond, ◌&&◌, ◌||◌, List, [], ◌∷◌, ◌++◌, length, slice_index, Some, None, is_some, refl}
+-- What the blocks give that drop coordinates with no value, and then those with nothing beneath, in any tree with values.
+use Rattle.std.specs.Prelude.{◌≡◌, ◌<◌, ◌≤◌, ℕ, suc, Bool, true, false, cond, ◌&&◌, List, [], ◌∷◌, ◌++◌, length, drop, slice_index, ltb, Some, None, is_some, refl, ◌||◌, zero}
 use Rattle.std.specs.List.{filter, list_any}
 use mathlib.Core.List.{map}
 use Rattle.std.proofs.Common.{arith, sym, ◌∙◌, ap}
-use Rattle.std.proofs.lemmas.Bool.{and_parts}
+use Rattle.std.proofs.lemmas.Bool.Decides.{nat_tests}
 use Rattle.std.proofs.lemmas.List.{length_push}
-use Rattle.sam_model.specs.Lists.{below}
+use Rattle.sam_model.specs.Lists.{below, tuples}
 use Rattle.stream_tokens.specs.declared.Token.TheVariants.{Item}
 use Rattle.stream_tokens.specs.Nest.{Leaf, Fiber}
 use Rattle.stream_tokens.specs.Flat.{flat}
-use Rattle.stream_tokens.specs.Shapes.{on_tokens, on_fibers, under, Positive, EachToken}
+use Rattle.stream_tokens.specs.Shapes.{on_tokens, on_fibers, under, Positive}
 use Rattle.stream_tokens.proofs.Algebra.{flat-on_tokens, on_fibers-under, under-on_tokens, under-ext, Positive-on_fibers}
-use Rattle.stream_model.specs.declared.labels.Attr.TheVariants.{Coordinate, Value}
-use Rattle.stream_model.specs.Grow.{next, path_fibers}
-use Rattle.stream_model.specs.Terms.{TermData}
-use Rattle.stream_model.specs.Trees.{in_reduced, value_reduced, reduced_sizes, begins_value, in_pruned}
-use Rattle.stream_model.specs.Labels.{last, reduced_shape, stream_at}
-use Rattle.sam_model.proofs.Lists.{and-false, filter-ext, list_any-ext, filter-map}
-use Rattle.stream_model.proofs.Grown.{InTree, paths-InTree}
-use Rattle.stream_model.proofs.Pruned.{early-test, late-test, begins-next, begins-full, paths-unpruned}
-use Rattle.stream_model.proofs.Sides.{pruned-root}
-use Rattle.stream_model.proofs.Fills.{pruned-alike}
-use Rattle.stream_model.proofs.Streams.{stream_at-IsStream}
 use Rattle.block_core.specs.Ports.{first_item, second_leaf, second}
 use Rattle.block_core.specs.DropValue.{has_value}
 use Rattle.block_core.specs.DropFiber.{is_nonempty, has_fiber}
 use Rattle.block_core.specs.Kind.{DropValueKind, DropFiberKind}
 use Rattle.block_core.proofs.Given.{Gives, dropvalue-over, dropfiber-over}
-use Rattle.label_rules.proofs.laws.Following.{paths-positive, coordinates-written, values-written, followers, followers-beneath, coordinates-grow, gives-written}
-
--- ---- what passes two tests
+use Rattle.stream_model.specs.Grow.{next, path_fibers}
+use Rattle.stream_model.specs.Trees.{begins_value, pruned_from, in_reduced, value_reduced, reduced_sizes}
+use Rattle.stream_model.specs.Labels.{last, reduced_shape, stream_at}
+use Rattle.sam_model.proofs.Lists.{and-true, and-false, list_any-gives, filter-ext, list_any-ext, filter-map}
+use Rattle.stream_model.proofs.Grown.{InTree, paths-InTree, paths-same}
+use Rattle.stream_model.proofs.Pruned.{begins-next, begins-full}
+use Rattle.label_rules.proofs.laws.Following.{paths-positive, followers, followers-beneath, coordinates-grow, gives-written}
+use Rattle.stream_model.specs.Tellings.{Prefixes, told, coordinate}
+use Rattle.stream_model.proofs.Levels.{told-flows, stream-over}
+use Rattle.stream_model.specs.declared.labels.Attr.TheVariants.{Coordinate, Value}
+use Rattle.stream_model.specs.Terms.{TermData}
+use Rattle.label_rules.proofs.laws.KeptStreams.{coordinates-unpruned, values-unpruned}
+use Rattle.label_rules.proofs.laws.ItemStreams.{gives-same}
+use Rattle.stream_model.proofs.Reduced.{value-begins}
 
 filter_both : {A : Type 0} (p q : A → Bool) (xs : List A) → filter p (filter q xs) ≡ filter (λ x. q x && p x) xs
 filter_both p q [] = refl
@@ -42,12 +41,6 @@ filter_both p q (x ∷ xs) = by_case (q x) (filter_both p q xs)
     by_case true e = ap (λ t. cond (p x) (x ∷ t) t) e
     by_case false e = e
 
--- the second of two tests alone, where what passes it passes the first
-second_test : (a b : Bool) → (b ≡ true → a ≡ true) → (a && b) ≡ b
-second_test a true h = ap (λ x. x && true) (h refl)
-second_test a false h = and-false a
-
--- the followers in one tree that a test keeps are those in another
 followers_kept : {B : Type 0} (keeps : ℕ × B → Bool) (ok ok' : List ℕ → Bool) (sizes : List ℕ) (v : List ℕ → B) (p : List ℕ)
     → ((c : ℕ) → (ok (p ++ c ∷ []) && keeps (c, v (p ++ c ∷ []))) ≡ ok' (p ++ c ∷ []))
     → filter keeps (followers ok sizes v p) ≡ followers ok' sizes v p
@@ -72,69 +65,132 @@ some-left test (x ∷ xs) = by_case (test x) (some-left test xs)
     by_case true e = refl
     by_case false e = e
 
-module _ (t : TermData) (g : ℕ) where
-  abbrev sizes : List ℕ
-  sizes = reduced_sizes t g
+second_test : (a b : Bool) → (b ≡ true → a ≡ true) → (a && b) ≡ b
+second_test a true h = ap (λ x. x && true) (h refl)
+second_test a false h = and-false a
 
+-- a tree whose lists with values begin with its lists
+module _ (has : List ℕ → Bool) (value : List ℕ → Leaf) (sizes : List ℕ) (root : has [] ≡ true)
+    (holds : (p q : List ℕ) → length p ≤ length sizes → is_some (value (p ++ q)) ≡ true → has p ≡ true) where
   abbrev begins : List ℕ → Bool
-  begins q = begins_value (value_reduced t g) sizes q
+  begins q = begins_value value sizes q
 
-  -- the prefixes of length d, where the tree is pruned from f on
-  abbrev level : ℕ → ℕ → List (Fiber (List ℕ))
-  level f d = path_fibers (in_pruned t g f) sizes d
+  abbrev pub cut : ℕ → List ℕ → Bool
+  cut f p = pruned_from has value sizes f p
 
-  -- the last coordinate of each, with what v tells of it
-  abbrev told : {B : Type 0} → (List ℕ → B) → ℕ → ℕ → List (Fiber (ℕ × B))
-  told v f d = on_tokens (λ p. (last p, v p)) (level f d)
+  begins_has : (q : List ℕ) → length q ≤ length sizes → begins q ≡ true → has q ≡ true
+  begins_has q l k = list_any-gives (λ rest. is_some (value (q ++ rest))) (has q) (λ rest e. holds q rest l e) (tuples (drop (length q) sizes)) k
 
-  told_positive : {B : Type 0} (v : List ℕ → B) (f d : ℕ) → Positive (told v f (suc d))
-  told_positive v f d = Positive-on_fibers (map (λ p. (last p, v p))) (level f (suc d)) (paths-positive (in_pruned t g f) sizes d)
+  pub early : (f : ℕ) (p : List ℕ) → length p < f → cut f p ≡ has p
+  early f p h = let t : ltb (length p) f ≡ true = grind (arith, nat_tests) in rw t (and-true (has p))
 
-  each_in : (f d : ℕ) → 0 < f → EachToken (InTree (in_pruned t g f) sizes d) (level f d)
-  each_in f d some = paths-InTree (in_pruned t g f) sizes (pruned-root t g f some) d
+  pub late : (f : ℕ) (p : List ℕ) → f ≤ length p → length p ≤ length sizes → cut f p ≡ begins p
+  late f p h l = let t : ltb (length p) f ≡ false = grind (arith, nat_tests) in rw t (second_test (has p) (begins p) (begins_has p l))
 
-  coordinates : {B : Type 0} (v : List ℕ → B) (f d : ℕ)
-      → stream_at (reduced_shape t g f d) Coordinate ≡ flat first_item (told v f d)
-  coordinates {B = B} v f d =
-      coordinates-written (reduced_shape t g f d) ∙ sym (flat-on_tokens (first_item {B = B}) (λ p. (last p, v p)) (level f d))
+  -- above the level of pruning it is the same
+  pub unpruned : (f d : ℕ) → d < f → path_fibers (cut f) sizes d ≡ path_fibers has sizes d
+  unpruned f d h =
+      paths-same (cut f) has sizes sizes (early f [] (omega (arith, h)) ∙ root) d
+      (λ n p k i.
+      ap (λ (cs : List ℕ). map (λ c. p ++ c ∷ []) cs)
+      (filter-ext (λ c. cut f (p ++ c ∷ [])) (λ c. has (p ++ c ∷ []))
+      (λ c. early f (p ++ c ∷ []) (omega (arith, length_push p c, i.count, k, h))) (below (slice_index sizes (length p)))))
 
-  values : (f d : ℕ) → stream_at (reduced_shape t g f d) Value ≡ flat second_leaf (told (value_reduced t g) f d)
-  values f d =
-      values-written (reduced_shape t g f d)
-      ∙ sym (flat-on_tokens (second_leaf {A = ℕ}) (λ p. (last p, value_reduced t g p)) (level f d))
+  abbrev pairs_of : {B : Type 0} → (List ℕ → B) → (List ℕ → Bool) → ℕ → List (Fiber (ℕ × B))
+  pairs_of v ok d = on_tokens (λ p. (last p, v p)) (path_fibers ok sizes d)
 
-  -- ---- one level pruned
+  coordinates_of : {B : Type 0} (v : List ℕ → B) (ok : List ℕ → Bool) (d : ℕ) → told coordinate (path_fibers ok sizes d) ≡ flat first_item (pairs_of v ok d)
+  coordinates_of {B = B} v ok d = sym (flat-on_tokens (first_item {B = B}) (λ p. (last p, v p)) (path_fibers ok sizes d))
 
-  -- what begins a value is all that pruning leaves
-  pruned_kept : (f : ℕ) (q : List ℕ) → f ≤ length q → length q < 9 → (in_pruned t g 9 q && begins q) ≡ in_pruned t g f q
-  pruned_kept f q h few =
-      ap (λ b. b && begins q) (early-test t g 9 q few)
-      ∙ second_test (in_reduced t g q) (begins q) (λ k. (and_parts (in_reduced t g q) _ (late-test t g f q h ∙ k)).0)
-      ∙ sym (late-test t g f q h)
+  values_of : (ok : List ℕ → Bool) (d : ℕ) → told value (path_fibers ok sizes d) ≡ flat second_leaf (pairs_of value ok d)
+  values_of ok d = sym (flat-on_tokens (second_leaf {A = ℕ}) (λ p. (last p, value p)) (path_fibers ok sizes d))
 
-  -- where a test keeps what begins a value, it prunes the tree's last level
-  level_pruned : {B : Type 0} (e : ℕ) (keeps : ℕ × B → Bool) (v : List ℕ → B) → suc e < 9
+  pairs_positive : {B : Type 0} (v : List ℕ → B) (ok : List ℕ → Bool) (d : ℕ) → Positive (pairs_of v ok (suc d))
+  pairs_positive v ok d = Positive-on_fibers (map (λ p. (last p, v p))) (path_fibers ok sizes (suc d)) (paths-positive ok sizes d)
+
+  -- where a test keeps what begins a value, it prunes the last level
+  level_pruned : {B : Type 0} (e : ℕ) (keeps : ℕ × B → Bool) (v : List ℕ → B) → suc e ≤ length sizes
       → ((p : List ℕ) (c : ℕ) → length p ≡ e → keeps (c, v (p ++ c ∷ [])) ≡ begins (p ++ c ∷ []))
-      → on_fibers (filter keeps) (told v 9 (suc e)) ≡ told v (suc e) (suc e)
-  level_pruned {B = B} e keeps v few k =
-      ap (λ (fs : List (Fiber (ℕ × B))). on_fibers (filter keeps) fs) (followers-beneath (in_pruned t g 9) sizes e v)
-      ∙ on_fibers-under (filter keeps) (followers (in_pruned t g 9) sizes v) refl (level 9 e)
-      ∙ under-ext (InTree (in_pruned t g 9) sizes e) (λ p. filter keeps (followers (in_pruned t g 9) sizes v p))
-      (followers (in_pruned t g (suc e)) sizes v) one (level 9 e) (each_in 9 e (omega arith))
-      ∙ ap (under (followers (in_pruned t g (suc e)) sizes v))
-      (paths-unpruned t g 9 e (omega (arith, few)) ∙ sym (paths-unpruned t g (suc e) e (omega arith)))
-      ∙ sym (followers-beneath (in_pruned t g (suc e)) sizes e v)
-    where
-      one : (p : List ℕ) → InTree (in_pruned t g 9) sizes e p
-          → filter keeps (followers (in_pruned t g 9) sizes v p) ≡ followers (in_pruned t g (suc e)) sizes v p
-      one p i =
-          followers_kept keeps (in_pruned t g 9) (in_pruned t g (suc e)) sizes v p
-          (λ c.
-          let long = length_push p c in
-          ap (λ b. in_pruned t g 9 (p ++ c ∷ []) && b) (k p c i.count)
-          ∙ pruned_kept (suc e) (p ++ c ∷ []) (omega (arith, long, i.count)) (omega (arith, long, i.count, few)))
+      → on_fibers (filter keeps) (pairs_of v has (suc e)) ≡ pairs_of v (cut (suc e)) (suc e)
+  level_pruned {B = B} e keeps v room k =
+      ap (λ (fs : List (Fiber (ℕ × B))). on_fibers (filter keeps) fs) (followers-beneath has sizes e v)
+      ∙ on_fibers-under (filter keeps) (followers has sizes v) refl (path_fibers has sizes e)
+      ∙ under-ext (InTree has sizes e) (λ p. filter keeps (followers has sizes v p)) (followers (cut (suc e)) sizes v)
+      (λ p i.
+      followers_kept keeps has (cut (suc e)) sizes v p
+      (λ c.
+      ap (λ b. has (p ++ c ∷ []) && b) (k p c i.count)
+      ∙ second_test (has (p ++ c ∷ [])) (begins (p ++ c ∷ [])) (begins_has (p ++ c ∷ []) (omega (arith, length_push p c, i.count, room)))
+      ∙ sym (late (suc e) (p ++ c ∷ []) (omega (arith, length_push p c, i.count)) (omega (arith, length_push p c, i.count, room))))) (path_fibers has sizes e)
+      (paths-InTree has sizes root e)
+      ∙ ap (under (followers (cut (suc e)) sizes v)) (sym (unpruned (suc e) e (omega arith)))
+      ∙ sym (followers-beneath (cut (suc e)) sizes e v)
 
-  -- ---- coordinates with no value
+  pub dropvalue-law : (e : ℕ) → length sizes ≡ suc e → suc e ≤ 200
+      → Gives DropValueKind (told coordinate (path_fibers has sizes (suc e)) ∷ told value (path_fibers has sizes (suc e)) ∷ [])
+      (told coordinate (path_fibers (cut (suc e)) sizes (suc e)) ∷ told value (path_fibers (cut (suc e)) sizes (suc e)) ∷ [])
+  dropvalue-law e size few =
+      gives-written DropValueKind _ _ (flat first_item (pairs_of value has (suc e)) ∷ flat second_leaf (pairs_of value has (suc e)) ∷ [])
+      (flat first_item (on_fibers (filter has_value) (pairs_of value has (suc e)))
+      ∷ flat second_leaf (on_fibers (filter has_value) (pairs_of value has (suc e))) ∷ [])
+      (rw (coordinates_of value has (suc e), values_of has (suc e)) refl)
+      (rw (after, coordinates_of value (cut (suc e)) (suc e), values_of (cut (suc e)) (suc e)) refl)
+      (told-flows coordinate has sizes (suc e) few, (told-flows value has sizes (suc e) few, tt))
+      (dropvalue-over (pairs_of value has (suc e)) (pairs_positive value has e))
+    where
+      after : on_fibers (filter has_value) (pairs_of value has (suc e)) ≡ pairs_of value (cut (suc e)) (suc e)
+      after =
+          level_pruned e has_value value (omega (arith, size))
+          (λ p c k. has_some c (value (p ++ c ∷ [])) ∙ sym (begins-full value sizes (p ++ c ∷ []) (omega (arith, length_push p c, k, size))))
+
+  pub dropfiber-law : (e : ℕ) → suc e < length sizes → suc (suc e) ≤ 200
+      → Gives DropFiberKind
+      (told coordinate (path_fibers has sizes (suc e)) ∷ told coordinate (path_fibers (cut (suc (suc e))) sizes (suc (suc e))) ∷ [])
+      (told coordinate (path_fibers (cut (suc e)) sizes (suc e)) ∷ told coordinate (path_fibers (cut (suc e)) sizes (suc (suc e))) ∷ [])
+  dropfiber-law e above few =
+      gives-written DropFiberKind _ _ (flat first_item (pairs_of beneath has f) ∷ flat Item (under second (pairs_of beneath has f)) ∷ [])
+      (flat first_item (on_fibers (filter has_fiber) (pairs_of beneath has f))
+      ∷ flat Item (under second (on_fibers (filter has_fiber) (pairs_of beneath has f))) ∷ [])
+      (rw (coordinates_of beneath has f, inner (suc f) has root (unpruned (suc f) f (omega arith)) (omega arith)) refl)
+      (rw (after, coordinates_of beneath (cut f) f, inner f (cut f) (early f [] (omega arith) ∙ root) refl (omega arith)) refl)
+      (told-flows coordinate has sizes f (omega (arith, few)), (told-flows coordinate (cut (suc f)) sizes (suc f) few, tt))
+      (dropfiber-over (pairs_of beneath has f) (pairs_positive beneath has e))
+    where
+      f : ℕ
+      f = suc e
+
+      beneath : List ℕ → List ℕ
+      beneath p = next (cut (suc f)) sizes p
+
+      inner : (n : ℕ) (ok : List ℕ → Bool) → ok [] ≡ true → path_fibers (cut n) sizes f ≡ path_fibers ok sizes f → n ≤ suc f
+          → told coordinate (path_fibers (cut n) sizes (suc f)) ≡ flat Item (under second (pairs_of beneath ok f))
+      inner n ok top same low =
+          coordinates-grow (cut n) sizes f
+          ∙ ap (λ (fs : Prefixes). flat Item (under (next (cut n) sizes) fs)) same
+          ∙ ap (flat Item)
+          (under-ext (InTree ok sizes f) (next (cut n) sizes) beneath
+          (λ p i.
+          filter-ext (λ c. cut n (p ++ c ∷ [])) (λ c. cut (suc f) (p ++ c ∷ []))
+          (λ c. late n (p ++ c ∷ []) (omega (arith, length_push p c, i.count, low)) (omega (arith, length_push p c, i.count, above))
+          ∙ sym (late (suc f) (p ++ c ∷ []) (omega (arith, length_push p c, i.count)) (omega (arith, length_push p c, i.count, above)))) (below (slice_index sizes (length p))))
+          (path_fibers ok sizes f) (paths-InTree ok sizes top f)
+          ∙ sym (under-on_tokens second (λ p. (last p, beneath p)) (path_fibers ok sizes f)))
+
+      goes_on : (q : List ℕ) → length q ≡ f → is_nonempty (beneath q) ≡ begins q
+      goes_on q k =
+          some-left (λ b. cut (suc f) (q ++ b ∷ [])) (below (slice_index sizes (length q)))
+          ∙ list_any-ext (λ b. cut (suc f) (q ++ b ∷ [])) (λ b. begins (q ++ b ∷ []))
+          (λ b. late (suc f) (q ++ b ∷ []) (omega (arith, length_push q b, k)) (omega (arith, length_push q b, k, above))) (below (slice_index sizes (length q)))
+          ∙ sym (begins-next value sizes q (omega (arith, k, above)))
+
+      after : on_fibers (filter has_fiber) (pairs_of beneath has f) ≡ pairs_of beneath (cut f) f
+      after = level_pruned e has_fiber beneath (omega (arith, above)) (λ p c k. goes_on (p ++ c ∷ []) (omega (arith, length_push p c, k)))
+
+-- ---- in the reduced trees of a term
+
+module _ (t : TermData) (g : ℕ) where
+  holds : (p q : List ℕ) → length p ≤ length (reduced_sizes t g) → is_some (value_reduced t g (p ++ q)) ≡ true → in_reduced t g p ≡ true
+  holds p q l e = value-begins t g p q e
 
   -- On the last level, what drops coordinates with no value prunes the tree from there.
   pub drop-value-gives : (r : ℕ) → length (reduced_sizes t g) ≡ r → 0 < r → r < 9
@@ -142,26 +198,10 @@ module _ (t : TermData) (g : ℕ) where
       (stream_at (reduced_shape t g r r) Coordinate ∷ stream_at (reduced_shape t g r r) Value ∷ [])
   drop-value-gives zero size some few = absurd (omega (arith, some))
   drop-value-gives (suc e) size some few =
-      gives-written DropValueKind _ _ (flat first_item before ∷ flat second_leaf before ∷ [])
-      (flat first_item (on_fibers (filter has_value) before) ∷ flat second_leaf (on_fibers (filter has_value) before) ∷ [])
-      (rw (coordinates (value_reduced t g) 9 (suc e), values 9 (suc e)) refl)
-      (rw (after, coordinates (value_reduced t g) (suc e) (suc e), values (suc e) (suc e)) refl) (
-        stream_at-IsStream (reduced_shape t g 9 (suc e)) Coordinate (omega (arith, few)),
-        (stream_at-IsStream (reduced_shape t g 9 (suc e)) Value (omega (arith, few)), tt),
-      )
-      (dropvalue-over before (told_positive (value_reduced t g) 9 e))
-    where
-      before : List (Fiber (ℕ × Leaf))
-      before = told (value_reduced t g) 9 (suc e)
-
-      after : on_fibers (filter has_value) before ≡ told (value_reduced t g) (suc e) (suc e)
-      after =
-          level_pruned e has_value (value_reduced t g) few
-          (λ p c k.
-          has_some c (value_reduced t g (p ++ c ∷ []))
-          ∙ sym (begins-full (value_reduced t g) sizes (p ++ c ∷ []) (omega (arith, length_push p c, k, size))))
-
-  -- ---- coordinates with nothing beneath
+      gives-same DropValueKind _ _ _ _
+      (rw (coordinates-unpruned t g (suc e) few, values-unpruned t g (suc e) few) refl)
+      (rw (stream-over (reduced_shape t g (suc e) (suc e)) Coordinate, stream-over (reduced_shape t g (suc e) (suc e)) Value) refl)
+      (dropvalue-law (in_reduced t g) (value_reduced t g) (reduced_sizes t g) refl holds e size (omega (arith, few)))
 
   -- On a level above the last, what drops coordinates with nothing beneath prunes the tree from there.
   pub drop-fiber-gives : (f : ℕ) → 0 < f → f < length (reduced_sizes t g) → length (reduced_sizes t g) < 9
@@ -170,47 +210,13 @@ module _ (t : TermData) (g : ℕ) where
       (stream_at (reduced_shape t g f f) Coordinate ∷ stream_at (reduced_shape t g f (suc f)) Coordinate ∷ [])
   drop-fiber-gives zero some above few = absurd (omega (arith, some))
   drop-fiber-gives (suc e) some above few =
-      gives-written DropFiberKind _ _ (flat first_item (told beneath 9 f) ∷ flat Item (under second (told beneath 9 f)) ∷ [])
-      (flat first_item (on_fibers (filter has_fiber) (told beneath 9 f))
-      ∷ flat Item (under second (on_fibers (filter has_fiber) (told beneath 9 f))) ∷ [])
-      (rw (coordinates beneath 9 f, inner (suc f) 9 unpruned (omega arith) (omega arith)) refl)
-      (rw (after, coordinates beneath f f, inner f f refl (omega arith) (omega arith)) refl) (
-        stream_at-IsStream (reduced_shape t g 9 f) Coordinate (omega (arith, above, few)),
-        (stream_at-IsStream (reduced_shape t g (suc f) (suc f)) Coordinate (omega (arith, above, few)), tt),
-      )
-      (dropfiber-over (told beneath 9 f) (told_positive beneath 9 e))
-    where
-      f : ℕ
-      f = suc e
-
-      -- the coordinates beneath a prefix of this level
-      beneath : List ℕ → List ℕ
-      beneath p = next (in_pruned t g (suc f)) sizes p
-
-      unpruned : level (suc f) f ≡ level 9 f
-      unpruned = paths-unpruned t g (suc f) f (omega arith) ∙ sym (paths-unpruned t g 9 f (omega (arith, above, few)))
-
-      inner : (n m : ℕ) → level n f ≡ level m f → n ≤ suc f → 0 < m
-          → stream_at (reduced_shape t g n (suc f)) Coordinate ≡ flat Item (under second (told beneath m f))
-      inner n m same low root =
-          coordinates-written (reduced_shape t g n (suc f))
-          ∙ coordinates-grow (in_pruned t g n) sizes f
-          ∙ ap (λ (fs : List (Fiber (List ℕ))). flat Item (under (next (in_pruned t g n) sizes) fs)) same
-          ∙ ap (flat Item)
-          (under-ext (InTree (in_pruned t g m) sizes f) (next (in_pruned t g n) sizes) beneath
-          (λ p i. pruned-alike t g n (suc f) p (omega (arith, i.count, low)) (omega (arith, i.count)))
-          (level m f) (each_in m f root)
-          ∙ sym (under-on_tokens second (λ p. (last p, beneath p)) (level m f)))
-
-      -- something lies beneath what begins a value
-      goes_on : (q : List ℕ) → length q ≡ f → is_nonempty (beneath q) ≡ begins q
-      goes_on q k =
-          some-left (λ b. in_pruned t g (suc f) (q ++ b ∷ [])) (below (slice_index sizes (length q)))
-          ∙ list_any-ext (λ b. in_pruned t g (suc f) (q ++ b ∷ [])) (λ b. begins (q ++ b ∷ []))
-          (λ b. late-test t g (suc f) (q ++ b ∷ []) (omega (arith, length_push q b, k))) (below (slice_index sizes (length q)))
-          ∙ sym (begins-next (value_reduced t g) sizes q (omega (arith, k, above)))
-
-      after : on_fibers (filter has_fiber) (told beneath 9 f) ≡ told beneath f f
-      after =
-          level_pruned e has_fiber beneath (omega (arith, above, few))
-          (λ p c k. goes_on (p ++ c ∷ []) (omega (arith, length_push p c, k)))
+      gives-same DropFiberKind _ _ _ _
+      (rw (
+        coordinates-unpruned t g (suc e) (omega (arith, above, few)),
+        stream-over (reduced_shape t g (suc (suc e)) (suc (suc e))) Coordinate,
+      ) refl)
+      (rw (
+        stream-over (reduced_shape t g (suc e) (suc e)) Coordinate,
+        stream-over (reduced_shape t g (suc e) (suc (suc e))) Coordinate,
+      ) refl)
+      (dropfiber-law (in_reduced t g) (value_reduced t g) (reduced_sizes t g) refl holds e above (omega (arith, above, few)))

@@ -1,12 +1,9 @@
 -- The fibers of heads beneath one list of fibers: what the two sides of a merge owe.
-use Rattle.std.specs.Prelude.{◌≡◌, ◌<◌, ℕ, suc, ◌+◌, List, [], ◌∷◌, ◌++◌, length, get_or, refl}
+use Rattle.std.specs.Prelude.{◌≡◌, ℕ, List, [], ◌∷◌, ◌++◌, length, refl}
 use mathlib.Core.List.{map}
-use Rattle.std.proofs.Common.{arith, ◌∙◌, ap}
-use Rattle.stream_tokens.specs.declared.Token.{Token}
-use Rattle.stream_tokens.specs.Nest.{Fiber, IsStream, spread}
+use Rattle.stream_tokens.specs.Nest.{Fiber, spread}
 use Rattle.stream_tokens.specs.Shapes.{beneath_by, under, Each}
 use Rattle.stream_tokens.proofs.Algebra.{EachToken-under}
-use Rattle.block_core.specs.Move.{over}
 use Rattle.block_core.specs.Ports.{Streams, AllStreams}
 use Rattle.block_core.specs.Merge.{Head, Ascends}
 use Rattle.block_core.proofs.Given.{Level, SideAscends}
@@ -65,21 +62,6 @@ pub wide-under : {A : Type 0} (w : ℕ) (f : A → List Head) → ((x : A) → E
 wide-under {A = A} w f h fs =
     EachToken-under (λ (x : A). Unit {0}) (λ h. length h.1 ≡ w) f (λ x e. h x) fs
     (EachToken-always (λ (x : A). Unit {0}) (λ x. tt) fs)
-
--- what stands at as many ports as a list is long, where each port tells of its item
-pub over-items : {A : Type 0} (s g : ℕ → A) (fs : List ℕ) (p : ℕ) → ((q : ℕ) → q < length fs → s (p + q) ≡ g (get_or fs q 0))
-    → over s p (length fs) ≡ map g fs
-over-items s g [] p h = refl
-over-items s g (f ∷ fs) p h =
-    let first : s p ≡ g f = ap s (omega arith) ∙ h 0 (omega arith) in
-    let more : over s (suc p) (length fs) ≡ map g fs =
-    over-items s g fs (suc p) (λ q l. ap s (omega arith) ∙ h (suc q) (omega (arith, l))) in
-    rw (first, more) refl
-
--- streams of a list, each the stream of a tree
-pub all-streams : (g : ℕ → List Token) → ((f : ℕ) → IsStream (g f)) → (fs : List ℕ) → AllStreams (map g fs)
-all-streams g h [] = tt
-all-streams g h (f ∷ fs) = (h f, all-streams g h fs)
 
 -- the streams of both of two lists
 pub both-streams : (ss ts : Streams) → AllStreams ss → AllStreams ts → AllStreams (ss ++ ts)

@@ -1,30 +1,29 @@
 -- The root, the products and the constants of a term: what is told of each prefix of one tree.
 use Rattle.std.specs.Prelude.{cond, Bool, None, true, ◌≡◌, ◌<◌, ◌≤◌, ℕ, suc, ◌*◌, ◌%◌, ◌^◌, List, [], ◌∷◌, length, take, Some, refl}
-use mathlib.Core.List.{map}
-use Rattle.std.proofs.Common.{arith, sym, ◌∙◌, ap, subst, mul-one}
+use Rattle.std.proofs.Common.{arith, sym, ◌∙◌, ap, mul-one}
 use Rattle.std.proofs.Math.Nat.{mod-mod}
 use Rattle.std.proofs.lemmas.List.{take_all}
 use Rattle.sam_model.specs.Tensors.{value_at}
 use Rattle.stream_tokens.specs.declared.Token.{Token}
 use Rattle.stream_tokens.specs.Nest.{Leaf, leaf, Fiber}
 use Rattle.stream_tokens.specs.Flat.{flat}
-use Rattle.stream_tokens.proofs.Fibers.{shaped-fibers}
-use Rattle.block_core.specs.Ports.{AllStreams, port}
-use Rattle.block_core.specs.Change.{on_item}
+use Rattle.block_core.specs.Ports.{port}
 use Rattle.block_core.specs.Arithmetic.{Operation, Times, combined_leaf}
 use Rattle.block_core.specs.Kind.{outputs, RootKind, AluKind, ConstKind}
 use Rattle.block_core.proofs.Given.{Gives, gives, const-gives, alu-over}
 use Rattle.stream_model.specs.declared.labels.Attr.{Attr}
 use Rattle.stream_model.specs.declared.labels.Attr.TheVariants.{Coordinate, Rank, FactorValue, Partial, Whole, Literal}
-use Rattle.stream_model.specs.Grow.{paths, path_fibers}
+use Rattle.stream_model.specs.Grow.{path_fibers}
 use Rattle.stream_model.specs.Terms.{Operand, TermData, restricted, access_at, partial_product}
 use Rattle.stream_model.specs.Labels.{Shape, root_shape, product_shape, last, token, stream_at}
 use Rattle.stream_model.proofs.Grown.{EachToken-always}
 use Rattle.stream_model.proofs.Bridges.{root-rank, partial-more, whole-partial, whole-plain}
-use Rattle.stream_model.proofs.Streams.{stream_at-flat, stream_at-IsStream}
-use Rattle.label_rules.proofs.laws.ItemStreams.{gives-same, flat-ext, changed}
+use Rattle.stream_model.proofs.Streams.{stream_at-flat}
+use Rattle.label_rules.proofs.laws.ItemStreams.{gives-same, flat-ext, on_leaf, tellings-changed}
 use Rattle.label_rules.proofs.laws.ProductTrees.{product_stream}
-use Rattle.stream_model.proofs.Levels.{stream-over}
+use Rattle.stream_model.proofs.Levels.{stream-over, told-flows}
+use Rattle.stream_model.specs.Tellings.{Telling, told}
+use Rattle.label_rules.proofs.laws.Following.{paths-shaped}
 
 -- ---- the root
 
@@ -54,21 +53,21 @@ told-alike s a x h =
     (EachToken-always (λ (p : List ℕ). Unit {0}) (λ p. tt) (paths_of s))
     ∙ sym (stream-over s a)
 
+-- an operation on what is told of each prefix of any tree
+pub alu-law : (op : Operation) (x y : Telling) (ok : List ℕ → Bool) (sizes : List ℕ) (d : ℕ) → d ≤ 200
+    → Gives (AluKind op) (told x (path_fibers ok sizes d) ∷ told y (path_fibers ok sizes d) ∷ [])
+    (told (λ p. combined_leaf op (x p) (y p)) (path_fibers ok sizes d) ∷ [])
+alu-law op x y ok sizes d h =
+    alu-over op x y (path_fibers ok sizes d) (paths-shaped ok sizes d) (told-flows x ok sizes d h, (told-flows y ok sizes d h, tt))
+
 -- two values of each prefix, and what an operation makes of them
 pub combined-gives : (op : Operation) (s : Shape) (a b c : Attr) → s.depth ≤ 200
     → ((p : List ℕ) → combined_leaf op (token s a p) (token s b p) ≡ token s c p)
     → Gives (AluKind op) (stream_at s a ∷ stream_at s b ∷ []) (stream_at s c ∷ [])
 combined-gives op s a b c h e =
-    gives-same (AluKind op) _ _ _ _ (sym ins_are)
+    gives-same (AluKind op) _ _ _ _ (rw (stream-over s a, stream-over s b) refl)
     (ap (λ (x : List Token). x ∷ []) (told-alike s c (λ p. combined_leaf op (token s a p) (token s b p)) e))
-    (alu-over op (token s a) (token s b) (paths_of s) (shaped-fibers {A = List ℕ} s.depth (paths s.ok s.sizes s.depth))
-    (subst AllStreams ins_are (stream_at-IsStream s a h, (stream_at-IsStream s b h, tt))))
-  where
-    ins_are : stream_at s a ∷ stream_at s b ∷ []
-        ≡ flat (λ p. leaf (token s a p)) (paths_of s) ∷ flat (λ p. leaf (token s b p)) (paths_of s) ∷ []
-    ins_are =
-        ap (λ (x : List Token). x ∷ stream_at s b ∷ []) (stream-over s a)
-        ∙ ap (λ (x : List Token). flat (λ p. leaf (token s a p)) (paths_of s) ∷ x ∷ []) (stream-over s b)
+    (alu-law op (token s a) (token s b) s.ok s.sizes s.depth h)
 
 -- ---- products
 
@@ -96,19 +95,22 @@ product-gives t d k mask h few =
 
 -- ---- the literals
 
+-- a constant in place of each number that is told of the prefixes of any tree
+pub const-law : (c : ℕ) (x : Telling) (ok : List ℕ → Bool) (sizes : List ℕ) (d : ℕ) → d ≤ 200
+    → Gives (ConstKind c) (told x (path_fibers ok sizes d) ∷ []) (told (λ p. on_leaf (λ _. c) (x p)) (path_fibers ok sizes d) ∷ [])
+const-law c x ok sizes d h =
+    gives-same (ConstKind c) _ _ _ _ refl (ap (λ (s : List Token). s ∷ []) (tellings-changed (λ _. c) x (path_fibers ok sizes d)))
+    (const-gives c (told x (path_fibers ok sizes d)) (told-flows x ok sizes d h, tt))
+
 -- a constant beside each number that is told of a tree
 pub constant-beside : (s : Shape) (a : Attr) (x : List ℕ → ℕ) (c : ℕ) → s.depth ≤ 200 → ((p : List ℕ) → Some (x p) ≡ token s a p)
     → ((p : List ℕ) → Some c ≡ token s (Literal c) p)
     → Gives (ConstKind c) (stream_at s a ∷ []) (stream_at s (Literal c) ∷ [])
 constant-beside s a x c h e k =
-    gives-same (ConstKind c) _ _ _ _ refl (ap (λ (t : List Token). t ∷ []) constants)
-    (const-gives c (stream_at s a) (stream_at-IsStream s a h, tt))
-  where
-    constants : map (on_item (λ _. c)) (stream_at s a) ≡ stream_at s (Literal c)
-    constants =
-        ap (map (on_item (λ _. c))) (sym (told-alike s a (λ p. Some (x p)) e))
-        ∙ changed (λ _. c) x (paths_of s)
-        ∙ told-alike s (Literal c) (λ p. Some c) k
+    gives-same (ConstKind c) _ _ _ _ (ap (λ (t : List Token). t ∷ []) (sym (stream-over s a)))
+    (ap (λ (t : List Token). t ∷ [])
+    (told-alike s (Literal c) (λ p. on_leaf (λ _. c) (token s a p)) (λ p. ap (on_leaf (λ _. c)) (sym (e p)) ∙ k p)))
+    (const-law c (token s a) s.ok s.sizes s.depth h)
 
 -- a constant beside each coordinate of a tree
 pub constant-on : (s : Shape) (c : ℕ) → s.depth ≤ 200 → ((p : List ℕ) → s.has p ≡ true)
