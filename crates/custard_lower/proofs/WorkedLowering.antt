@@ -1,5 +1,6 @@
 -- Drafts of small programs, by hand.
-use Rattle.std.proofs.Common.{◌≡◌, ◌-◌, ◌^◌, ℕ, true, false, List, [], ◌∷◌, ◌++◌, refl}
+use Rattle.std.proofs.Common.{◌≡◌, ◌-◌, ◌^◌, ℕ, Bool, true, false, List, [], ◌∷◌, ◌++◌, refl}
+use Rattle.std.specs.List.{list_all}
 use mathlib.Core.List.{map}
 use Rattle.sam_model.specs.declared.tensors.Format.TheVariants.{Compressed}
 use Rattle.sam_model.specs.declared.tensors.Tensor.{Tensor}
@@ -15,7 +16,9 @@ use Rattle.stream_model.specs.declared.labels.Attr.TheVariants as attr
 use Rattle.stream_model.specs.declared.labels.Tree.TheVariants as tree
 use Rattle.graph.specs.declared.graphs.Kind.{Kind}
 use Rattle.graph.specs.declared.graphs.Kind.TheVariants as kind
+use Rattle.label_rules.specs.Rules.{allowed}
 use Rattle.custard_lower.specs.declared.drafts.Made.{Made}
+use Rattle.custard_lower.specs.Drafts.{label_at}
 use Rattle.custard_lower.specs.Lowering.{program_draft}
 
 -- ---- programs in few words
@@ -74,8 +77,11 @@ root = made kind.Root [] (record { tree = tree.Root; attr = attr.Literal 0 } ∷
 
 -- ---- x(i) = b(i) * c(i)
 
+abbrev two_vectors_program : Program
+two_vectors_program = program (vector ∷ vector ∷ []) vector (0 ∷ []) (term (Access 0 (0 ∷ []) ∷ Access 1 (0 ∷ []) ∷ []) ∷ []) (4 ∷ [])
+
 two_vectors :
-    program_draft (program (vector ∷ vector ∷ []) vector (0 ∷ []) (term (Access 0 (0 ∷ []) ∷ Access 1 (0 ∷ []) ∷ []) ∷ []) (4 ∷ []))
+    program_draft two_vectors_program
     ≡ root
     ∷ made (kind.Scan 0 1) (0 ∷ []) (product 1 1 attr.Coordinate ∷ product 1 1 (attr.Rank 0) ∷ [])
     ∷ made (kind.Scan 1 1) (0 ∷ []) (product 1 2 attr.Coordinate ∷ product 1 2 (attr.Rank 1) ∷ [])
@@ -92,9 +98,12 @@ two_vectors = refl
 
 -- ---- x(i) = B(i,j) * c(j)
 
+abbrev matrix_vector_program : Program
+matrix_vector_program =
+    program (matrix ∷ vector ∷ []) vector (0 ∷ []) (term (Access 0 (0 ∷ 1 ∷ []) ∷ Access 1 (1 ∷ []) ∷ []) ∷ []) (4 ∷ 4 ∷ [])
+
 matrix_vector :
-    program_draft
-    (program (matrix ∷ vector ∷ []) vector (0 ∷ []) (term (Access 0 (0 ∷ 1 ∷ []) ∷ Access 1 (1 ∷ []) ∷ []) ∷ []) (4 ∷ 4 ∷ []))
+    program_draft matrix_vector_program
     ≡ root
     ∷ made (kind.Scan 0 1) (0 ∷ []) (product 1 1 attr.Coordinate ∷ product 1 1 (attr.Rank 0) ∷ [])
     ∷ made kind.Repeat (1 ∷ 0 ∷ []) (product 1 1 (attr.Rank 1) ∷ [])
@@ -114,10 +123,13 @@ matrix_vector = refl
 
 -- ---- X(i,j) = B(i,k) * C(k,j), with loops i, k, j
 
+abbrev matrix_matrix_program : Program
+matrix_matrix_program =
+    program (matrix ∷ matrix ∷ []) matrix (0 ∷ 2 ∷ []) (term (Access 0 (0 ∷ 1 ∷ []) ∷ Access 1 (1 ∷ 2 ∷ []) ∷ []) ∷ [])
+    (4 ∷ 4 ∷ 4 ∷ [])
+
 matrix_matrix :
-    program_draft
-    (program (matrix ∷ matrix ∷ []) matrix (0 ∷ 2 ∷ []) (term (Access 0 (0 ∷ 1 ∷ []) ∷ Access 1 (1 ∷ 2 ∷ []) ∷ []) ∷ [])
-    (4 ∷ 4 ∷ 4 ∷ []))
+    program_draft matrix_matrix_program
     ≡ root
     ∷ made (kind.Scan 0 1) (0 ∷ []) (product 1 1 attr.Coordinate ∷ product 1 1 (attr.Rank 0) ∷ [])
     ∷ made kind.Repeat (1 ∷ 0 ∷ []) (product 1 1 (attr.Rank 1) ∷ [])
@@ -141,10 +153,13 @@ matrix_matrix = refl
 
 -- ---- the same with loops k, i, j
 
+abbrev outer_product_program : Program
+outer_product_program =
+    program (tensor (1 ∷ 0 ∷ []) ∷ matrix ∷ []) matrix (1 ∷ 2 ∷ [])
+    (term (Access 0 (1 ∷ 0 ∷ []) ∷ Access 1 (0 ∷ 2 ∷ []) ∷ []) ∷ []) (4 ∷ 4 ∷ 4 ∷ [])
+
 outer_product :
-    program_draft
-    (program (tensor (1 ∷ 0 ∷ []) ∷ matrix ∷ []) matrix (1 ∷ 2 ∷ [])
-    (term (Access 0 (1 ∷ 0 ∷ []) ∷ Access 1 (0 ∷ 2 ∷ []) ∷ []) ∷ []) (4 ∷ 4 ∷ 4 ∷ []))
+    program_draft outer_product_program
     ≡ root
     ∷ made (kind.Scan 0 1) (0 ∷ []) (product 1 1 attr.Coordinate ∷ product 1 1 (attr.Rank 0) ∷ [])
     ∷ made (kind.Scan 1 1) (0 ∷ []) (product 1 2 attr.Coordinate ∷ product 1 2 (attr.Rank 1) ∷ [])
@@ -169,9 +184,12 @@ outer_product = refl
 
 -- ---- x = b(i) * c(i)
 
+abbrev dot_program : Program
+dot_program =
+    program (vector ∷ vector ∷ []) (tensor []) [] (term (Access 0 (0 ∷ []) ∷ Access 1 (0 ∷ []) ∷ []) ∷ []) (4 ∷ [])
+
 dot :
-    program_draft
-    (program (vector ∷ vector ∷ []) (tensor []) [] (term (Access 0 (0 ∷ []) ∷ Access 1 (0 ∷ []) ∷ []) ∷ []) (4 ∷ []))
+    program_draft dot_program
     ≡ root
     ∷ made (kind.Scan 0 1) (0 ∷ []) (product 1 1 attr.Coordinate ∷ product 1 1 (attr.Rank 0) ∷ [])
     ∷ made (kind.Scan 1 1) (0 ∷ []) (product 1 2 attr.Coordinate ∷ product 1 2 (attr.Rank 1) ∷ [])
@@ -187,10 +205,13 @@ dot = refl
 
 -- ---- x(i) = - 2 * b(i) * c(i) * d(i)
 
+abbrev scaled_program : Program
+scaled_program =
+    program (vector ∷ vector ∷ vector ∷ []) vector (0 ∷ [])
+    (record { minus = true; factors = Literal 2 ∷ Access 0 (0 ∷ []) ∷ Access 1 (0 ∷ []) ∷ Access 2 (0 ∷ []) ∷ [] } ∷ []) (4 ∷ [])
+
 scaled :
-    program_draft
-    (program (vector ∷ vector ∷ vector ∷ []) vector (0 ∷ [])
-    (record { minus = true; factors = Literal 2 ∷ Access 0 (0 ∷ []) ∷ Access 1 (0 ∷ []) ∷ Access 2 (0 ∷ []) ∷ [] } ∷ []) (4 ∷ []))
+    program_draft scaled_program
     ≡ root
     ∷ made (kind.Scan 0 1) (0 ∷ []) (product 1 1 attr.Coordinate ∷ product 1 1 (attr.Rank 0) ∷ [])
     ∷ made (kind.Scan 1 1) (0 ∷ []) (product 1 2 attr.Coordinate ∷ product 1 2 (attr.Rank 1) ∷ [])
@@ -214,9 +235,12 @@ scaled = refl
 
 -- ---- x = b - c
 
+abbrev scalars_program : Program
+scalars_program =
+    program (tensor [] ∷ tensor [] ∷ []) (tensor []) [] (difference (Access 0 []) (Access 1 [])) []
+
 scalars :
-    program_draft
-    (program (tensor [] ∷ tensor [] ∷ []) (tensor []) [] (difference (Access 0 []) (Access 1 [])) [])
+    program_draft scalars_program
     ≡ root
     ∷ made (kind.Array 0) (0 ∷ []) (product 0 0 (attr.FactorValue 0) ∷ [])
     ∷ made (kind.Array 1) (0 ∷ []) (product_of 1 0 0 (attr.FactorValue 0) ∷ [])
@@ -227,9 +251,12 @@ scalars = refl
 
 -- ---- x(i) = b(i) - c(i)
 
+abbrev vectors_program : Program
+vectors_program =
+    program (vector ∷ vector ∷ []) vector (0 ∷ []) (difference (Access 0 (0 ∷ [])) (Access 1 (0 ∷ []))) (4 ∷ [])
+
 vectors :
-    program_draft
-    (program (vector ∷ vector ∷ []) vector (0 ∷ []) (difference (Access 0 (0 ∷ [])) (Access 1 (0 ∷ []))) (4 ∷ []))
+    program_draft vectors_program
     ≡ root
     ∷ made (kind.Scan 0 1) (0 ∷ []) (product 1 1 attr.Coordinate ∷ product 1 1 (attr.Rank 0) ∷ [])
     ∷ made (kind.Array 0) (2 ∷ []) (product 1 1 (attr.FactorValue 0) ∷ [])
@@ -275,9 +302,12 @@ sum_of_two =
     ∷ made kind.Add (29 ∷ 30 ∷ []) (joined 1 2 attr.Value ∷ [])
     ∷ []
 
+abbrev matrices_program : Program
+matrices_program =
+    program (matrix ∷ matrix ∷ []) matrix (0 ∷ 1 ∷ []) (term (stored 0 ∷ []) ∷ term (stored 1 ∷ []) ∷ []) (4 ∷ 4 ∷ [])
+
 matrices :
-    program_draft
-    (program (matrix ∷ matrix ∷ []) matrix (0 ∷ 1 ∷ []) (term (stored 0 ∷ []) ∷ term (stored 1 ∷ []) ∷ []) (4 ∷ 4 ∷ []))
+    program_draft matrices_program
     ≡ sum_of_two
     ++ (made (kind.WriteLevel 1) (21 ∷ []) [] ∷ made (kind.WriteLevel 2) (28 ∷ []) [] ∷ made kind.WriteValue (31 ∷ []) [] ∷ [])
 matrices = refl
@@ -302,10 +332,26 @@ third_and_join =
     ∷ made kind.Sub (51 ∷ 52 ∷ []) (joined 2 2 attr.Value ∷ [])
     ∷ []
 
+abbrev three_matrices_program : Program
+three_matrices_program =
+    program (matrix ∷ matrix ∷ matrix ∷ []) matrix (0 ∷ 1 ∷ []) (term (stored 0 ∷ []) ∷ difference (stored 1) (stored 2))
+    (4 ∷ 4 ∷ [])
+
 three_matrices :
-    program_draft
-    (program (matrix ∷ matrix ∷ matrix ∷ []) matrix (0 ∷ 1 ∷ []) (term (stored 0 ∷ []) ∷ difference (stored 1) (stored 2))
-    (4 ∷ 4 ∷ []))
+    program_draft three_matrices_program
     ≡ sum_of_two ++ third_and_join
     ++ (made (kind.WriteLevel 1) (43 ∷ []) [] ∷ made (kind.WriteLevel 2) (50 ∷ []) [] ∷ made kind.WriteValue (53 ∷ []) [] ∷ [])
 three_matrices = refl
+
+-- ---- the labels at every block of these drafts are allowed, but for the scalars, which no accepted program has as operands
+
+abbrev labels_allowed : Program → Bool
+labels_allowed p = let made = program_draft p in list_all (λ m. allowed p m.kind (map (label_at made) m.ins) m.labels) made
+
+labels-allowed :
+    list_all labels_allowed
+    (two_vectors_program ∷ matrix_vector_program ∷ matrix_matrix_program ∷ outer_product_program
+    ∷ dot_program ∷ scaled_program ∷ vectors_program
+    ∷ matrices_program ∷ three_matrices_program ∷ [])
+    ≡ true
+labels-allowed = refl
