@@ -1,5 +1,5 @@
 //! Tests of the commands: transcripts of worked cases through the one call over files and sinks in memory, threads that meet at a
-//! gate, the machine on a lowered graph, and the adapters over real files and the standard streams.
+//! gate, and the adapters over real files and the standard streams.
 //!
 //! They stand in a crate of their own, so that the crates that they test are proved once.
 #![tactic(auto)]
@@ -9,11 +9,11 @@ mod channels;
 #[cfg(test)]
 mod command_lines;
 #[cfg(test)]
+mod faults;
+#[cfg(test)]
 mod graphs;
 #[cfg(test)]
 mod limits;
-#[cfg(test)]
-mod machine;
 #[cfg(test)]
 mod meeting;
 #[cfg(test)]

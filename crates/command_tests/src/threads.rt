@@ -128,7 +128,8 @@ fn blocks_run_in_threads(rt: HostRuntime) -> Result<(), Fail> {
     Ok(())
 }
 
-const PRODUCT: &str = r"--- p.sam
+/// The files of the product of two vectors.
+pub(crate) const PRODUCT: &str = r"--- p.sam
 | tensor b 4 c 1 b.tns
 | tensor c 4 c 1 c.tns
 | result x 4 c 1
