@@ -38,7 +38,7 @@ use Rattle.label_rules.specs.Storages.{storages_of}
 use Rattle.custard_lower.proofs.draft.Emitted.{Stands, Sound, Extends, stands-on}
 use Rattle.label_rules.proofs.term.Matching.{Matches}
 use Rattle.label_rules.proofs.term.PlanMatches.{plan-matches}
-use Rattle.custard_lower.proofs.term.PrunedSound.{PrunedStand, pruned_from, values_from}
+use Rattle.custard_lower.proofs.term.PrunedSound.{PrunedStand, prune_level, values_from}
 use Rattle.label_rules.proofs.term.Marks.{free-marks}
 use Rattle.custard_lower.proofs.term.TermSound.{few-levels, term-stands, root-sound, root-stands}
 use Rattle.custard_lower.proofs.join.Extending.{term-extends}
@@ -81,7 +81,7 @@ few-result p ok =
     omega (arith, stored.few, stored.levels, sized)
 
 -- a level is pruned from a level on that isn't below it
-low_prune : (e : ℕ) → (0 < pruned_from e) × (pruned_from e ≤ suc e)
+low_prune : (e : ℕ) → (0 < prune_level e) × (prune_level e ≤ suc e)
 low_prune zero = (omega arith, omega arith)
 low_prune (suc e) = (omega arith, omega arith)
 
@@ -154,13 +154,13 @@ module _ (p : Program) (es : List Entries) (ok : accepted p ≡ true) (same : le
     levels_are = ap (λ (xs : List ℕ). length xs) (sized-at sizes ss n sized inside)
 
     abbrev level_shape : ℕ → Shape
-    level_shape e = term_shape ss n (pruned_from e) (suc e)
+    level_shape e = term_shape ss n (prune_level e) (suc e)
 
     abbrev value_shape : ℕ → Shape
     value_shape r = term_shape ss n (values_from r) r
 
     level_on : (e : ℕ) → e < levels → Stands stream l.made (get_or l.coordinates e 0)
-        (of_term n (pruned_from e) (suc e) Coordinate)
+        (of_term n (prune_level e) (suc e) Coordinate)
     level_on e i = x.coordinates e (omega (arith, i, levels_are))
 
     values_on : Stands stream l.made l.values (of_term n (values_from levels) levels Value)
@@ -169,7 +169,7 @@ module _ (p : Program) (es : List Entries) (ok : accepted p ≡ true) (same : le
     term_count : length l.coordinates ≡ levels
     term_count = let c = x.count in c ∙ levels_are
 
-    marks_on : stream (record { tree = first_level_tree n plan; attr = Literal 1 }) ≡ of_term n (pruned_from 0) 1 (Literal 1)
+    marks_on : stream (record { tree = first_level_tree n plan; attr = Literal 1 }) ≡ of_term n (prune_level 0) 1 (Literal 1)
     marks_on =
         ap (λ (g : ℕ). stream_at (reduced_shape (term_at p es n) g 1 1) (Literal 1))
         (ap free_marks m.marks ∙ free-marks (term_at p es n).loops)
@@ -181,10 +181,10 @@ module _ (p : Program) (es : List Entries) (ok : accepted p ≡ true) (same : le
         (right-first sizes ss n sized inside).0
         (λ one. ap (λ (r : ℕ). of_term n (values_from r) r Value) one ∙ (right-first sizes ss n sized inside).1)
         (omega arith) (λ q. refl) marks_on
-        (λ e i j. right-fill-coordinates sizes ss sized e i j few n (pruned_from e) inside (low_prune e).0 (low_prune e).1)
+        (λ e i j. right-fill-coordinates sizes ss sized e i j few n (prune_level e) inside (low_prune e).0 (low_prune e).1)
         (λ e i j.
-        subst (λ (r : ℕ). Fills n Right e (of_term n (pruned_from e) (suc e) Coordinate) (of_term n (values_from r) r Value)) j
-        (right-fill-values sizes ss sized e i j few n (pruned_from e) (suc e) inside (low_prune e).0 (low_prune e).1
+        subst (λ (r : ℕ). Fills n Right e (of_term n (prune_level e) (suc e) Coordinate) (of_term n (values_from r) r Value)) j
+        (right-fill-values sizes ss sized e i j few n (prune_level e) (suc e) inside (low_prune e).0 (low_prune e).1
         (omega arith) (omega arith)))
 
     alone_on : levels ≡ 0 → Stands stream l.made l.values (term_alone (summand_at ss n).term)
@@ -217,16 +217,16 @@ module _ (p : Program) (es : List Entries) (ok : accepted p ≡ true) (same : le
     left_side : 1 < length ss → Beside 1 Left first_part.made (part (first_level_tree 0 first_plan) first_part)
     left_side two =
         part-side p es storages 1 few Left first_part.made (part (first_level_tree 0 first_plan) first_part)
-        (λ e. term_shape ss 0 (pruned_from e) (suc e)) (term_shape ss 0 (values_from levels) levels)
+        (λ e. term_shape ss 0 (prune_level e) (suc e)) (term_shape ss 0 (values_from levels) levels)
         (level_on 0 first_plan first_matches first_inside first_part first_stands)
         (values_on 0 first_plan first_matches first_inside first_part first_stands)
         (left-first sizes ss sized two added).0
         (λ one. ap (λ (r : ℕ). of_term 0 (values_from r) r Value) one ∙ (left-first sizes ss sized two added).1)
         (omega arith) (λ q. refl) (marks_on 0 first_plan first_matches first_inside first_part first_stands)
-        (λ e i j. first-fill-coordinates sizes ss sized e i j few (pruned_from e) two added (low_prune e).0 (low_prune e).1)
+        (λ e i j. first-fill-coordinates sizes ss sized e i j few (prune_level e) two added (low_prune e).0 (low_prune e).1)
         (λ e i j.
-        subst (λ (r : ℕ). Fills 1 Left e (of_term 0 (pruned_from e) (suc e) Coordinate) (of_term 0 (values_from r) r Value)) j
-        (first-fill-values sizes ss sized e i j few (pruned_from e) (suc e) two added (low_prune e).0 (low_prune e).1
+        subst (λ (r : ℕ). Fills 1 Left e (of_term 0 (prune_level e) (suc e) Coordinate) (of_term 0 (values_from r) r Value)) j
+        (first-fill-values sizes ss sized e i j few (prune_level e) (suc e) two added (low_prune e).0 (low_prune e).1
         (omega arith) (omega arith)))
 
     only_result : 1 ≡ length ss → ResultStands p es first_part

@@ -23,7 +23,7 @@ use Rattle.custard_lower.specs.Lowering.{root, term_levels}
 use Rattle.label_rules.specs.Storages.{storages_of}
 use Rattle.label_rules.proofs.term.Matching.{Matches}
 use Rattle.label_rules.proofs.term.PlanMatches.{plan-matches}
-use Rattle.custard_lower.proofs.term.PrunedSound.{PrunedStand, pruned_from, values_from}
+use Rattle.custard_lower.proofs.term.PrunedSound.{PrunedStand, prune_level, values_from}
 use Rattle.custard_lower.proofs.term.TermSound.{few-levels, term-stands, root-sound, root-stands}
 use Rattle.label_rules.proofs.laws.WriterLaw.{level-written}
 use Rattle.custard_lower.proofs.written.WrittenEntries.{ListsResult, streams_written}
@@ -70,7 +70,7 @@ module _ (p : Program) (t : Term) (ok : accepted p ≡ true) (only : p.terms ≡
 
   abbrev prune : ℕ → ℕ
   prune zero = 0
-  prune (suc d) = pruned_from d
+  prune (suc d) = prune_level d
 
   abbrev level_shape : ℕ → Shape
   level_shape k = reduced_shape (term_at p es 0) gone (prune k) k

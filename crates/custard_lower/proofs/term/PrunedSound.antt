@@ -26,9 +26,9 @@ use Rattle.label_rules.proofs.laws.DropLaws.{drop-value-gives, drop-fiber-gives}
 use Rattle.custard_lower.proofs.term.ReducedSound.{tree, LevelsStand}
 
 -- the length from which on level k + 1 is pruned in the end
-abbrev pub pruned_from : ℕ → ℕ
-pruned_from zero = 1
-pruned_from (suc k) = suc k
+abbrev pub prune_level : ℕ → ℕ
+prune_level zero = 1
+prune_level (suc k) = suc k
 
 -- and the values, which are those of a result without levels where there is none
 abbrev pub values_from : ℕ → ℕ
@@ -66,7 +66,7 @@ module _ (p : Program) (es : List Entries) (storages : List Ranked) (term : ℕ)
   pub record PrunedStand (l : Levels) : Type 0 where
     pub sound : Sound stream storages l.made
     pub count : length l.coordinates ≡ depth
-    pub coordinates : (k : ℕ) → k < depth → Stands stream l.made (get_or l.coordinates k 0) (pruned_tree (pruned_from k) (suc k))
+    pub coordinates : (k : ℕ) → k < depth → Stands stream l.made (get_or l.coordinates k 0) (pruned_tree (prune_level k) (suc k))
     pub values : Stands stream l.made l.values (tree p es storages term plan m g (values_from depth) depth Value)
 
   -- ---- values
@@ -227,7 +227,7 @@ module _ (p : Program) (es : List Entries) (storages : List Ranked) (term : ℕ)
         (size ∙ sym (ap values_from size)) x.values;
   }
     where
-      by_level : (k : ℕ) → k < depth → Stands stream l.made (get_or l.coordinates k 0) (pruned_tree (pruned_from k) (suc k))
+      by_level : (k : ℕ) → k < depth → Stands stream l.made (get_or l.coordinates k 0) (pruned_tree (prune_level k) (suc k))
       by_level zero i = x.here
       by_level (suc k) i = x.below (suc k) (omega arith) i
 
