@@ -3,6 +3,7 @@ pub mod Arity
 pub mod Holding
 pub mod TermRules
 pub mod KeptSame
+pub mod Splits
 pub mod SumRule
 pub mod DropRules
 pub mod SpaceRules

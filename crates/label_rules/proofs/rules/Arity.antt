@@ -1,7 +1,7 @@
 -- What meets a rule has as many labels as its kind has ports.
 use Rattle.std.specs.Prelude.{◌+◌, eqb, ◌≡◌, ℕ, suc, Bool, true, false, cond, List, [], ◌∷◌, ◌++◌, length, refl}
 use Rattle.std.proofs.Common.{arith, ◌∙◌, ap, length-append}
-use Rattle.std.proofs.lemmas.Bool.{and_parts}
+use Rattle.std.proofs.lemmas.Bool.{and_parts, eqb-true}
 use Rattle.std.proofs.lemmas.List.{length-map}
 use Rattle.sam_model.specs.declared.program.Program.{Program}
 use Rattle.stream_model.specs.declared.labels.Label.{Label}
@@ -16,7 +16,6 @@ use Rattle.label_rules.specs.Named.{tree_side, named}
 use Rattle.label_rules.specs.TermLabels.{bottom_label, met_labels}
 use Rattle.label_rules.specs.JoinLabels.{own_labels}
 use Rattle.label_rules.specs.Rules.{Instance, Allowed, instance}
-use Rattle.label_rules.proofs.rules.TermRules.{is_same}
 use Rattle.block_core.specs.Kind.{ins_of, outs_of}
 use Rattle.graph.specs.Meaning.{meaning}
 
@@ -58,13 +57,13 @@ module _ (p : Program) where
   rules-arity kind.Root ins outs a = counted kind.Root ins outs a
   rules-arity (kind.Scan tensor level) ins outs a = counted (kind.Scan tensor level) ins outs a
   rules-arity kind.Repeat ins outs a = counted kind.Repeat ins outs a
-  rules-arity (kind.Cast n) ins outs a = ((counted (kind.Cast n) ins outs a).0, is_same (length outs) n a.holds)
+  rules-arity (kind.Cast n) ins outs a = ((counted (kind.Cast n) ins outs a).0, eqb-true (length outs) n a.holds)
   rules-arity kind.Drain ins outs a = counted kind.Drain ins outs a
   rules-arity (kind.Intersect l r) ins outs a =
       let x = named l ins outs in
       let both = and_parts _ _ (and_parts _ _ a.holds).1 in
-      let l_is : l ≡ length x.these = is_same l (length x.these) both.0 in
-      let r_is : r ≡ length x.those = is_same r (length x.those) both.1 in
+      let l_is : l ≡ length x.these = eqb-true l (length x.these) both.0 in
+      let r_is : r ≡ length x.those = eqb-true r (length x.those) both.1 in
       let first = side_length x.term x.level x.left x.these in
       let second = side_length x.term x.level x.right x.those in
       let all = length-append (met_labels p x.term x.level x.left x.these) (met_labels p x.term x.level x.right x.those) in
@@ -79,8 +78,8 @@ module _ (p : Program) where
       (omega (arith, ins_long, n, all, first, second, l_is, r_is), omega (arith, outs_long, met, joint, l_is, r_is))
   rules-arity (kind.Union l r) ins outs a =
       let first = and_parts _ _ a.holds in
-      let l_is : l ≡ 1 = is_same l 1 first.0 in
-      let r_is : r ≡ 1 = is_same r 1 (and_parts _ _ first.1).0 in
+      let l_is : l ≡ 1 = eqb-true l 1 first.0 in
+      let r_is : r ≡ 1 = eqb-true r 1 (and_parts _ _ first.1).0 in
       let t = counted (kind.Union l r) ins outs a in
       let ins_long : length ins ≡ 4 = t.0 in
       let outs_long : length outs ≡ 3 = t.1 in
@@ -100,6 +99,6 @@ module _ (p : Program) where
   rules-arity (kind.Fill w) ins outs a =
       let x = named 0 ins outs in
       fill_ports ins outs w (eqb x.level (length (result_sizes p)))
-      (own_labels p x.term (tree_side (port_label outs 0).tree) x.level Value) (tree_label (Beside x.term (tree_side (port_label outs 0).tree) x.level) Value) (is_same w _ (and_parts _ _ a.holds).0) (counted (kind.Fill w) ins outs a)
+      (own_labels p x.term (tree_side (port_label outs 0).tree) x.level Value) (tree_label (Beside x.term (tree_side (port_label outs 0).tree) x.level) Value) (eqb-true w _ (and_parts _ _ a.holds).0) (counted (kind.Fill w) ins outs a)
   rules-arity (kind.WriteLevel d) ins outs a = counted (kind.WriteLevel d) ins outs a
   rules-arity kind.WriteValue ins outs a = counted kind.WriteValue ins outs a

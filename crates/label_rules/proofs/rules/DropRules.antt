@@ -1,6 +1,6 @@
 -- The rules of the blocks that drop coordinates are sound.
 use Rattle.std.specs.Prelude.{◌≡◌, ◌<◌, ◌≤◌, ℕ, suc, ◌-◌, true, List, [], ◌∷◌, length, refl}
-use Rattle.std.proofs.Common.{arith, ◌∙◌, ap, inl, inr}
+use Rattle.std.proofs.Common.{arith, ◌∙◌, ap}
 use Rattle.stream_tokens.specs.declared.Token.{Token}
 use Rattle.sam_model.specs.declared.tensors.Entries.{Entries}
 use Rattle.sam_model.specs.declared.program.Program.{Program}
@@ -19,10 +19,10 @@ use Rattle.label_rules.proofs.laws.JoinSides.{sized-at}
 use Rattle.label_rules.proofs.term.Loops.{levels-passed}
 use Rattle.label_rules.proofs.term.Marks.{left-marks, free-marks, counted-marks}
 use Rattle.label_rules.proofs.laws.DropLaws.{drop-value-gives, drop-fiber-gives}
-use Rattle.label_rules.specs.Labels.{IsOneOf, PortsAllow}
+use Rattle.label_rules.specs.Labels.{PortsAllow}
 use Rattle.label_rules.specs.TermLabels.{plan_at, reduced_label, loop_count, coordinate_labels, value_labels, free_loop_count}
 use Rattle.label_rules.specs.Holding.{Shallow, Keeps}
-use Rattle.label_rules.proofs.rules.TermRules.{matched, keeps}
+use Rattle.label_rules.proofs.rules.TermRules.{matched, keeps, one-alone}
 use Rattle.label_rules.proofs.rules.SumRule.{long, coordinates-alike, values-alike, two}
 
 module _ (p : Program) (es : List Entries) (ok : accepted p ≡ true) (same : length es ≡ length p.tensors) (t : ℕ) (inside : t < length p.terms) where
@@ -84,12 +84,8 @@ module _ (p : Program) (es : List Entries) (ok : accepted p ≡ true) (same : le
       let g = free_loop_count p t in
       let x = two p es ok same t inside (coordinate_labels p t g (suc e)) (reduced_label p t g (suc (suc e)) (suc (suc e)) Coordinate ∷ []) ins i in
       let c = coordinates-alike p es ok same t inside g e x.0 (omega (arith, few, below)) (omega (arith, deep, below)) x.3 in
-      let v : stream x.1 ≡ stream_at (reduced_shape d_t g (suc (suc e)) (suc (suc e))) Coordinate = ap stream (only x.1 _ x.4) in
+      let v : stream x.1 ≡ stream_at (reduced_shape d_t g (suc (suc e)) (suc (suc e))) Coordinate = ap stream (one-alone x.1 _ x.4) in
       let n = levels-are in
       keeps p es ok same kind.DropFiber ins outs (x.0 ∷ x.1 ∷ []) _ x.2 o
       ((omega (arith, few, below), tt), ((omega (arith, few, below), tt), tt))
       (rw (c, v) (drop-fiber-gives d_t g (suc e) (omega arith) (omega (arith, below, n)) (omega (arith, few, n))))
-    where
-      only : (l k : Label) → IsOneOf l (k ∷ []) → l ≡ k
-      only l k (inl e) = e
-      only l k (inr y) = absurd y

@@ -3,7 +3,7 @@ use Rattle.std.specs.Prelude.{◌≡◌, ◌<◌, ◌≤◌, ℕ, zero, suc, ◌
 use Rattle.std.specs.List.{range_with_len}
 use mathlib.Core.List.{map}
 use Rattle.std.proofs.Common.{arith, sym, ◌∙◌, ap, subst, inl, inr}
-use Rattle.std.proofs.lemmas.Bool.{and_parts}
+use Rattle.std.proofs.lemmas.Bool.{and_parts, ltb-true, eqb-true, leb-true}
 use Rattle.std.proofs.lemmas.Bool.Decides.{nat_tests}
 use Rattle.stream_tokens.specs.declared.Token.{Token}
 use Rattle.sam_model.specs.declared.tensors.Entries.{Entries}
@@ -28,16 +28,13 @@ use Rattle.label_rules.specs.Rules.{Instance, Allowed}
 use Rattle.label_rules.specs.Laws.{KeepsLabels}
 use Rattle.label_rules.specs.Holding.{Shallow, EachLabel, Keeps, RulesSound, RulesMet, LabelsHold}
 use Rattle.label_rules.proofs.rules.Holding.{rules-hold}
-use Rattle.label_rules.proofs.rules.TermRules.{just-these, is_below, is_same, is_not, first_shallow, covered-sound}
+use Rattle.label_rules.proofs.rules.TermRules.{just-these, is_not, first_shallow, covered-sound}
 use Rattle.label_rules.proofs.rules.SumRule.{sum-sound}
 use Rattle.label_rules.proofs.rules.SpaceRules.{vector-keeps, matrix-keeps}
 use Rattle.label_rules.proofs.rules.DropRules.{few, dropvalue-keeps, dropfiber-keeps}
 use Rattle.label_rules.proofs.rules.ValueRules.{const-keeps, whole-keeps, product-keeps, level-keeps, values-keep}
 use Rattle.label_rules.proofs.rules.JoinRules.{alone-keeps, union-keeps, add-keeps, sub-keeps}
 use Rattle.label_rules.proofs.rules.FillRules.{one-ranged, fill-keeps, fill-values-keep}
-
-at_most : (a b : ℕ) → leb a b ≡ true → a ≤ b
-at_most a b e = grind (arith, nat_tests, e)
 
 -- the one label that stands at a block's one port
 only_port : (cs ins : List Label) → PortsAllow (cs ∷ []) ins → (l : Label) × (ins ≡ l ∷ []) × IsOneOf l cs
@@ -57,14 +54,14 @@ module _ (p : Program) (es : List Entries) (ok : accepted p ≡ true) (same : le
       → PortsAllow (cond b (partial_labels p t (factor_count p t) ∷ (bottom_label p t (Literal (plan_coefficient p t)) ∷ []) ∷ [])
       (partial_labels p t (k - 1) ∷ (bottom_label p t (FactorValue (k - 1)) ∷ []) ∷ [])) ins
       → outs ≡ cond b (bottom_label p t Whole ∷ []) (bottom_label p t (Partial k) ∷ []) → Kept kind.Mul ins outs
-  mul_sound t k ins outs true h i o = whole-keeps p es ok same t (is_below t (length p.terms) h) ins outs i o
+  mul_sound t k ins outs true h i o = whole-keeps p es ok same t (ltb-true t (length p.terms) h) ins outs i o
   mul_sound t k ins outs false h i o =
       let one = and_parts _ _ h in
       let more = and_parts _ _ one.1 in
-      let low = is_below 1 k more.0 in
-      let high = at_most k (factor_count p t) more.1 in
+      let low = ltb-true 1 k more.0 in
+      let high = leb-true k (factor_count p t) more.1 in
       let back : k ≡ suc (k - 1) = omega (arith, low) in
-      product-keeps p es ok same t (is_below t (length p.terms) one.0) (k - 1) ins outs (omega (arith, low)) (omega (arith, low, high)) i
+      product-keeps p es ok same t (ltb-true t (length p.terms) one.0) (k - 1) ins outs (omega (arith, low)) (omega (arith, low, high)) i
       (o ∙ ap (λ (n : ℕ). bottom_label p t (Partial n) ∷ []) back)
 
   mul_case : (t k : ℕ) (ins outs : List Label) (b : Bool) → (i j : Instance)
@@ -188,8 +185,8 @@ module _ (p : Program) (es : List Entries) (ok : accepted p ≡ true) (same : le
       let third = and_parts _ _ second.1 in
       let further = and_parts _ _ third.0 in
       let level = and_parts _ _ third.1 in
-      union_sound l r x.term x.level ins outs (is_same l 1 one.0) (is_same r 1 second.0) (is_below 0 x.term further.0)
-      (is_below x.term (length p.terms) further.1) (is_below 0 x.level level.0) (at_most x.level (length (result_sizes p)) level.1) a.ins_are a.outs_are
+      union_sound l r x.term x.level ins outs (eqb-true l 1 one.0) (eqb-true r 1 second.0) (ltb-true 0 x.term further.0)
+      (ltb-true x.term (length p.terms) further.1) (ltb-true 0 x.level level.0) (leb-true x.level (length (result_sizes p)) level.1) a.ins_are a.outs_are
   rules-sound kind.Mul ins outs a h =
       let x = named 0 ins outs in
       let c = mul_case x.term x.factor ins outs (same_label (port_label outs 0) (bottom_label p x.term Whole)) _ _ a.holds a.ins_are a.outs_are in
@@ -198,13 +195,13 @@ module _ (p : Program) (es : List Entries) (ok : accepted p ≡ true) (same : le
       let e = (named 0 ins outs).term in
       let one = and_parts _ _ a.holds in
       let further = and_parts _ _ one.0 in
-      add_sound e (eqb (length (result_sizes p)) 0) ins outs refl (is_below 0 e further.0) (is_below e (length p.terms) further.1)
+      add_sound e (eqb (length (result_sizes p)) 0) ins outs refl (ltb-true 0 e further.0) (ltb-true e (length p.terms) further.1)
       (is_not (get_or p.terms e empty_term).minus one.1) a.ins_are a.outs_are
   rules-sound kind.Sub ins outs a h =
       let e = (named 0 ins outs).term in
       let one = and_parts _ _ a.holds in
       let further = and_parts _ _ one.0 in
-      sub_sound e (eqb (length (result_sizes p)) 0) ins outs refl (is_below 0 e further.0) (is_below e (length p.terms) further.1) one.1 a.ins_are a.outs_are
+      sub_sound e (eqb (length (result_sizes p)) 0) ins outs refl (ltb-true 0 e further.0) (ltb-true e (length p.terms) further.1) one.1 a.ins_are a.outs_are
   rules-sound (kind.Const c) ins outs a h =
       let l = port_label ins 0 in
       let i : ins ≡ l ∷ [] = just-these (l ∷ []) ins a.ins_are in
@@ -216,27 +213,27 @@ module _ (p : Program) (es : List Entries) (ok : accepted p ≡ true) (same : le
       let one = and_parts _ _ a.holds in
       let second = and_parts _ _ one.1 in
       let third = and_parts _ _ second.1 in
-      vector-keeps p es ok same x.term (is_below x.term (length p.terms) one.0) g ins outs (is_below g (free_loop_count p x.term) third.0)
-      (is_same (left_after g (plan_at p x.term).on_left) 1 third.1) a.ins_are a.outs_are
+      vector-keeps p es ok same x.term (ltb-true x.term (length p.terms) one.0) g ins outs (ltb-true g (free_loop_count p x.term) third.0)
+      (eqb-true (left_after g (plan_at p x.term).on_left) 1 third.1) a.ins_are a.outs_are
   rules-sound kind.SumMatrix ins outs a h =
       let x = named 0 ins outs in
       let g = x.gone - 1 in
       let one = and_parts _ _ a.holds in
       let second = and_parts _ _ one.1 in
       let third = and_parts _ _ second.1 in
-      matrix-keeps p es ok same x.term (is_below x.term (length p.terms) one.0) g ins outs (is_below g (free_loop_count p x.term) third.0)
-      (is_same (left_after g (plan_at p x.term).on_left) 2 third.1) a.ins_are a.outs_are
+      matrix-keeps p es ok same x.term (ltb-true x.term (length p.terms) one.0) g ins outs (ltb-true g (free_loop_count p x.term) third.0)
+      (eqb-true (left_after g (plan_at p x.term).on_left) 2 third.1) a.ins_are a.outs_are
   rules-sound kind.DropValue ins outs a h =
       let x = named 0 ins outs in
       let one = and_parts _ _ a.holds in
-      dropvalue_sound x.term (length (result_sizes p)) ins outs (is_below x.term (length p.terms) one.0) refl
-      (is_below 0 (length (result_sizes p)) one.1) a.ins_are a.outs_are
+      dropvalue_sound x.term (length (result_sizes p)) ins outs (ltb-true x.term (length p.terms) one.0) refl
+      (ltb-true 0 (length (result_sizes p)) one.1) a.ins_are a.outs_are
   rules-sound kind.DropFiber ins outs a h =
       let x = named 0 ins outs in
       let one = and_parts _ _ a.holds in
       let second = and_parts _ _ one.1 in
-      dropfiber_sound x.term x.level ins outs (is_below x.term (length p.terms) one.0) (is_below 0 x.level second.0)
-      (is_below x.level (length (result_sizes p)) second.1) a.ins_are a.outs_are
+      dropfiber_sound x.term x.level ins outs (ltb-true x.term (length p.terms) one.0) (ltb-true 0 x.level second.0)
+      (ltb-true x.level (length (result_sizes p)) second.1) a.ins_are a.outs_are
   rules-sound (kind.Fill w) ins outs a h =
       let x = named 0 ins outs in
       let one = and_parts _ _ a.holds in
@@ -244,11 +241,11 @@ module _ (p : Program) (es : List Entries) (ok : accepted p ≡ true) (same : le
       let further = and_parts _ _ second.0 in
       let level = and_parts _ _ second.1 in
       fill_sound w x.term x.level (tree_side (port_label outs 0).tree) (eqb x.level (length (result_sizes p))) ins outs refl
-      (is_same w (cond (eqb x.level (length (result_sizes p))) 1 0) one.0) (is_below 0 x.term further.0) (is_below x.term (length p.terms) further.1)
-      (is_below 1 x.level level.0) (at_most x.level (length (result_sizes p)) level.1) a.ins_are a.outs_are
+      (eqb-true w (cond (eqb x.level (length (result_sizes p))) 1 0) one.0) (ltb-true 0 x.term further.0) (ltb-true x.term (length p.terms) further.1)
+      (ltb-true 1 x.level level.0) (leb-true x.level (length (result_sizes p)) level.1) a.ins_are a.outs_are
   rules-sound (kind.WriteLevel d) ins outs a h =
       let one = and_parts _ _ a.holds in
-      level_sound d ins outs (eqb (length p.terms) 1) (is_below 0 d one.0) a.ins_are a.outs_are h
+      level_sound d ins outs (eqb (length p.terms) 1) (ltb-true 0 d one.0) a.ins_are a.outs_are h
   rules-sound kind.WriteValue ins outs a h =
       let q = only_port _ ins a.ins_are in
       subst (λ (ls : List Label). Kept kind.WriteValue ins ls) (sym a.outs_are)

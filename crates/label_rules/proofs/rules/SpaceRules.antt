@@ -1,7 +1,6 @@
 -- The rules of the vector and the matrix reducer are sound.
-use Rattle.std.specs.Prelude.{◌≡◌, ◌<◌, ◌≤◌, ℕ, suc, ◌+◌, ◌-◌, Bool, true, false, cond, List, [], ◌∷◌, ◌++◌, length, eqb, refl}
+use Rattle.std.specs.Prelude.{◌≡◌, ◌<◌, ◌≤◌, ℕ, suc, ◌+◌, ◌-◌, true, false, List, [], ◌∷◌, length, refl}
 use Rattle.std.proofs.Common.{arith, sym, ◌∙◌, ap, subst, length-append}
-use Rattle.std.proofs.lemmas.Bool.Decides.{nat_tests}
 use Rattle.stream_tokens.specs.declared.Token.{Token}
 use Rattle.sam_model.specs.declared.tensors.Entries.{Entries}
 use Rattle.sam_model.specs.declared.program.Program.{Program}
@@ -10,14 +9,14 @@ use Rattle.sam_model.specs.Denote.{Loop}
 use Rattle.stream_model.specs.declared.labels.Attr.TheVariants.{Coordinate, Value}
 use Rattle.stream_model.specs.declared.labels.Label.{Label}
 use Rattle.stream_model.specs.Terms.{TermData}
-use Rattle.stream_model.specs.Trees.{free_count, kept_sizes}
+use Rattle.stream_model.specs.Trees.{kept_sizes}
 use Rattle.stream_model.specs.Labels.{reduced_shape, stream_at, label_stream, term_at}
 use Rattle.stream_model.specs.Reduction.{Reduces}
 use Rattle.graph.specs.declared.graphs.Kind.TheVariants as kind
-use Rattle.label_rules.specs.Plans.{left_marks, free_marks}
+use Rattle.label_rules.specs.Plans.{free_marks}
 use Rattle.label_rules.specs.Storages.{storages_of}
 use Rattle.label_rules.proofs.term.Matching.{Matches}
-use Rattle.label_rules.proofs.term.Marks.{marks, left-marks, free-marks, counted-marks}
+use Rattle.label_rules.proofs.term.Marks.{left-marks, free-marks, counted-marks}
 use Rattle.label_rules.proofs.laws.SumVectorLaw.{sum-vector-gives}
 use Rattle.label_rules.proofs.laws.SumMatrixLaw.{sum-matrix-gives}
 use Rattle.label_rules.specs.Labels.{IsOneOf, PortsAllow}
@@ -25,48 +24,7 @@ use Rattle.label_rules.specs.TermLabels.{plan_at, reduced_label, loop_count, coo
 use Rattle.label_rules.specs.Holding.{Shallow, Keeps}
 use Rattle.label_rules.proofs.rules.TermRules.{matched, keeps}
 use Rattle.label_rules.proofs.rules.SumRule.{long, coordinates-alike, values-alike, two}
-
--- a loop that isn't on the left, g such loops after it, and k others
-pub record Split (g k : ℕ) (ls : List Loop) : Type 0 where
-  pub before : List Loop
-  pub size : ℕ
-  pub after : List Loop
-  pub loops_are : ls ≡ before ++ (size, false) ∷ after
-  pub gone : free_count after ≡ g
-  pub left : left_marks (marks after) ≡ k
-
-split : (g k : ℕ) (ls : List Loop) → g < free_count ls → left_after g (marks ls) ≡ k → Split g k ls
-split g k [] l e = absurd (omega (arith, l))
-split g k ((s, true) ∷ ls) l e =
-    let r = split g k ls l e in
-    record {
-      before = (s, true) ∷ r.before;
-      size = r.size;
-      after = r.after;
-      loops_are = ap (λ (x : List Loop). (s, true) ∷ x) r.loops_are;
-      gone = r.gone;
-      left = r.left;
-    }
-split g k ((s, false) ∷ ls) l e = by_case (eqb (free_marks (marks ls)) g) refl e (split g k ls)
-  where
-    by_case : (b : Bool) → eqb (free_marks (marks ls)) g ≡ b → cond b (left_marks (marks ls)) (left_after g (marks ls)) ≡ k
-        → (g < free_count ls → left_after g (marks ls) ≡ k → Split g k ls) → Split g k ((s, false) ∷ ls)
-    by_case true f h r =
-        let same : free_marks (marks ls) ≡ g = grind (arith, nat_tests, f) in
-        record { before = []; size = s; after = ls; loops_are = refl; gone = sym (free-marks ls) ∙ same; left = h }
-    by_case false f h r =
-        let other : free_marks (marks ls) ≡ g → ⊥ = λ j. grind (arith, nat_tests, f, j) in
-        let n = free-marks ls in
-        let more : g < free_count ls = omega (arith, l, n, other) in
-        let x = r more h in
-        record {
-          before = (s, false) ∷ x.before;
-          size = x.size;
-          after = x.after;
-          loops_are = ap (λ (y : List Loop). (s, false) ∷ y) x.loops_are;
-          gone = x.gone;
-          left = x.left;
-        }
+use Rattle.label_rules.proofs.rules.Splits.{Split, split}
 
 pub record Three (cs ds es : List (Label)) (ins : List Label) : Type 0 where
   pub a : Label

@@ -3,7 +3,7 @@ use Rattle.std.specs.Prelude.{Option, Some, None, ◌≡◌, ◌<◌, ◌≤◌,
 use Rattle.std.specs.List.{filter, range_with_len}
 use mathlib.Core.List.{map}
 use Rattle.std.proofs.Common.{arith, sym, ◌∙◌, ap, subst, inl, inr, length-append}
-use Rattle.std.proofs.lemmas.Bool.{and_parts}
+use Rattle.std.proofs.lemmas.Bool.{and_parts, ltb-true, eqb-true}
 use Rattle.std.proofs.lemmas.Bool.Decides.{nat_tests}
 use Rattle.stream_tokens.specs.declared.Token.{Token}
 use Rattle.sam_model.specs.declared.tensors.Entries.{Entries}
@@ -22,7 +22,7 @@ use Rattle.block_core.proofs.Given.{Gives}
 use Rattle.block_core.specs.Kind.{SumScalarKind}
 use Rattle.graph.specs.declared.graphs.Kind.TheVariants as kind
 use Rattle.label_rules.specs.Labels.{no_label, IsOneOf, PortsAllow}
-use Rattle.label_rules.specs.Plans.{left_marks, free_marks}
+use Rattle.label_rules.specs.Plans.{free_marks}
 use Rattle.label_rules.specs.Storages.{storages_of}
 use Rattle.label_rules.proofs.term.Matching.{Matches, IsCoefficient}
 use Rattle.label_rules.proofs.laws.KeptStreams.{values-whole}
@@ -34,54 +34,10 @@ use Rattle.label_rules.specs.Named.{named}
 use Rattle.label_rules.specs.TermLabels.{plan_at, factor_count, product_label, reduced_label, bottom_label, full_mask, loop_count, partial_labels, plan_coefficient, kept_numbers, kept_from, same_kept, coordinate_labels, value_labels, left_after, free_loop_count}
 use Rattle.label_rules.specs.Rules.{Allowed}
 use Rattle.label_rules.specs.Holding.{Shallow, Keeps}
-use Rattle.label_rules.proofs.rules.TermRules.{matched, keeps, loops-are, full-is, is_below, is_same}
+use Rattle.label_rules.proofs.rules.TermRules.{matched, keeps, loops-are, full-is}
 use Rattle.label_rules.proofs.rules.Exact.{lists_same}
 use Rattle.label_rules.proofs.rules.KeptSame.{kept_at, coordinates-same, coordinates-product}
-
--- ---- the loop that is reduced
-
--- a loop that isn't on the left, g such loops after it, and no others
-pub record Split (g : ℕ) (ls : List Loop) : Type 0 where
-  pub before : List Loop
-  pub size : ℕ
-  pub after : List Loop
-  pub loops_are : ls ≡ before ++ (size, false) ∷ after
-  pub gone : free_count after ≡ g
-  pub long : length after ≡ g
-
-split : (g : ℕ) (ls : List Loop) → g < free_count ls → left_after g (marks ls) ≡ 0 → Split g ls
-split g [] l e = absurd (omega (arith, l))
-split g ((s, true) ∷ ls) l e =
-    let r = split g ls l e in
-    record {
-      before = (s, true) ∷ r.before;
-      size = r.size;
-      after = r.after;
-      loops_are = ap (λ (x : List Loop). (s, true) ∷ x) r.loops_are;
-      gone = r.gone;
-      long = r.long;
-    }
-split g ((s, false) ∷ ls) l e = by_case (eqb (free_marks (marks ls)) g) refl e (split g ls)
-  where
-    by_case : (b : Bool) → eqb (free_marks (marks ls)) g ≡ b → cond b (left_marks (marks ls)) (left_after g (marks ls)) ≡ 0
-        → (g < free_count ls → left_after g (marks ls) ≡ 0 → Split g ls) → Split g ((s, false) ∷ ls)
-    by_case true f h r =
-        let same : free_marks (marks ls) ≡ g = grind (arith, nat_tests, f) in
-        let n : free_count ls ≡ g = sym (free-marks ls) ∙ same in
-        record { before = []; size = s; after = ls; loops_are = refl; gone = n; long = let c = counted-marks ls in omega (arith, c, h, n) }
-    by_case false f h r =
-        let other : free_marks (marks ls) ≡ g → ⊥ = λ k. grind (arith, nat_tests, f, k) in
-        let n = free-marks ls in
-        let more : g < free_count ls = omega (arith, l, n, other) in
-        let x = r more h in
-        record {
-          before = (s, false) ∷ x.before;
-          size = x.size;
-          after = x.after;
-          loops_are = ap (λ (y : List Loop). (s, false) ∷ y) x.loops_are;
-          gone = x.gone;
-          long = x.long;
-        }
+use Rattle.label_rules.proofs.rules.Splits.{Split, split}
 
 -- ---- one of several labels
 
@@ -265,20 +221,23 @@ module _ (p : Program) (es : List Entries) (ok : accepted p ≡ true) (same : le
           × IsOneOf b (value_labels p t g)
       x = two (cond (eqb (loop_count p t - g) 1) (no_label ∷ []) (coordinate_labels p t g (loop_count p t - g - 1))) (value_labels p t g) ins i
 
-      r : Split g d_t.loops
+      r : Split g 0 d_t.loops
       r =
-          split g d_t.loops
+          split g 0 d_t.loops
           (let e = ap free_marks m.marks in let f = free-marks d_t.loops in omega (arith, some, e, f))
           (ap (left_after g) (sym m.marks) ∙ none)
 
       reduces : Reduces d_t r.before r.size r.after g
       reduces = record { loops_are = r.loops_are; gone = r.gone; few = m.few_loops }
 
+      after_long : length r.after ≡ g
+      after_long = let c = counted-marks r.after in let l = r.left in let f = r.gone in omega (arith, c, l, f)
+
       whole_length : length d_t.loops ≡ length r.before + suc g
       whole_length =
           let e = ap (λ (ls : List Loop). length ls) r.loops_are in
           let f = length-append r.before ((r.size, false) ∷ r.after) in
-          let h = r.long in
+          let h = after_long in
           omega (arith, e, f, h)
 
       level_is : loop_count p t - g ≡ suc (length r.before)
@@ -321,5 +280,5 @@ sum-sound p es ok same ins outs a =
     let one = and_parts _ _ a.holds in
     let two = and_parts _ _ one.1 in
     let three = and_parts _ _ two.1 in
-    sum-keeps p es ok same x.term (is_below x.term (length p.terms) one.0) g ins outs (is_below g (free_loop_count p x.term) three.0)
-    (is_same (left_after g (plan_at p x.term).on_left) 0 three.1) a.ins_are a.outs_are
+    sum-keeps p es ok same x.term (ltb-true x.term (length p.terms) one.0) g ins outs (ltb-true g (free_loop_count p x.term) three.0)
+    (eqb-true (left_after g (plan_at p x.term).on_left) 0 three.1) a.ins_are a.outs_are

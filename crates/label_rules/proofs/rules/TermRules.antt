@@ -1,10 +1,10 @@
 -- The rules are sound, kind by kind.
-use Rattle.std.specs.Prelude.{◌≡◌, ◌<◌, ◌≤◌, ℕ, zero, suc, ◌-◌, Bool, true, false, not, List, [], ◌∷◌, ◌++◌, length, get_or, eqb, ltb, refl}
+use Rattle.std.specs.Prelude.{◌≡◌, ◌<◌, ◌≤◌, ℕ, zero, suc, ◌-◌, Bool, true, false, not, List, [], ◌∷◌, ◌++◌, length, get_or, eqb, refl}
 use Rattle.std.specs.Int.Bits.{bit_or}
 use Rattle.std.specs.List.{list_all}
 use mathlib.Core.List.{map}
 use Rattle.std.proofs.Common.{arith, sym, ◌∙◌, ap, subst, inl, inr}
-use Rattle.std.proofs.lemmas.Bool.{and_parts}
+use Rattle.std.proofs.lemmas.Bool.{and_parts, ltb-true, eqb-true}
 use Rattle.std.proofs.lemmas.Bool.Decides.{nat_tests}
 use Rattle.std.proofs.lemmas.List.{get_or-map, length-map, map-append}
 use Rattle.stream_tokens.specs.declared.Token.{Token}
@@ -58,15 +58,15 @@ use Rattle.label_rules.specs.Holding.{Shallow, EachLabel, Keeps}
 
 -- ---- labels that are given
 
-one_of : (l k : Label) → IsOneOf l (k ∷ []) → l ≡ k
-one_of l k (inl e) = e
-one_of l k (inr x) = absurd x
+pub one-alone : (l k : Label) → IsOneOf l (k ∷ []) → l ≡ k
+one-alone l k (inl e) = e
+one-alone l k (inr x) = absurd x
 
 pub just-these : (ks ls : List Label) → PortsAllow (just_these ks) ls → ls ≡ ks
 just-these [] [] x = refl
 just-these [] (l ∷ ls) x = absurd x
 just-these (k ∷ ks) [] x = absurd x
-just-these (k ∷ ks) (l ∷ ls) x = let a = one_of l k x.0 in let b = just-these ks ls x.1 in cc
+just-these (k ∷ ks) (l ∷ ls) x = let a = one-alone l k x.0 in let b = just-these ks ls x.1 in cc
 
 -- ---- terms
 
@@ -83,12 +83,6 @@ term_is p es (t ∷ ts) (suc n) l =
     let e : eqb (suc n) 0 ≡ false = grind (arith, nat_tests) in
     ap (λ (s : Summand). s.term) (get_or-map (further_summand p es) ts n empty_term no_summand (omega (arith, l)))
     ∙ ap (λ b. term_data p es b (get_or ts n empty_term)) (sym e)
-
-pub is_below : (a b : ℕ) → ltb a b ≡ true → a < b
-is_below a b e = grind (arith, nat_tests, e)
-
-pub is_same : (a b : ℕ) → eqb a b ≡ true → a ≡ b
-is_same a b e = grind (arith, nat_tests, e)
 
 pub is_not : (b : Bool) → not b ≡ true → b ≡ false
 is_not true e = sym e
@@ -306,10 +300,10 @@ module _ (p : Program) (es : List Entries) (ok : accepted p ≡ true) (same : le
       let three = and_parts _ _ two.1 in
       let four = and_parts _ _ three.1 in
       let five = and_parts _ _ four.1 in
-      scan-keeps x.term (is_below x.term (length p.terms) one.0) tensor level d f ins outs
-      (is_below d (loop_count p x.term) two.0) (is_below f (factor_count p x.term) three.0) four.0
-      (is_same tensor (plan_access (plan_at p x.term) f).tensor five.0)
-      (is_same level (suc (levels_before (plan_access (plan_at p x.term) f).has d)) five.1)
+      scan-keeps x.term (ltb-true x.term (length p.terms) one.0) tensor level d f ins outs
+      (ltb-true d (loop_count p x.term) two.0) (ltb-true f (factor_count p x.term) three.0) four.0
+      (eqb-true tensor (plan_access (plan_at p x.term) f).tensor five.0)
+      (eqb-true level (suc (levels_before (plan_access (plan_at p x.term) f).has d)) five.1)
       (just-these (reference_label p x.term d f ∷ []) ins a.ins_are) a.outs_are
   covered-sound kind.Repeat c ins outs a h =
       let x = named 0 ins outs in
@@ -318,7 +312,7 @@ module _ (p : Program) (es : List Entries) (ok : accepted p ≡ true) (same : le
       let one = and_parts _ _ a.holds in
       let two = and_parts _ _ one.1 in
       let three = and_parts _ _ two.1 in
-      repeat-keeps x.term (is_below x.term (length p.terms) one.0) d f ins outs (is_below d (loop_count p x.term) two.0)
+      repeat-keeps x.term (ltb-true x.term (length p.terms) one.0) d f ins outs (ltb-true d (loop_count p x.term) two.0)
       (is_not (has_loop (plan_at p x.term) d f) three.1)
       (just-these (product_label p x.term (suc d) (full_mask p x.term d) Coordinate ∷ reference_label p x.term d f ∷ []) ins a.ins_are) a.outs_are
   covered-sound (kind.Cast n) c ins outs a h =
@@ -326,7 +320,7 @@ module _ (p : Program) (es : List Entries) (ok : accepted p ≡ true) (same : le
       let i : ins ≡ l ∷ [] = just-these (l ∷ []) ins a.ins_are in
       keeps (kind.Cast n) ins outs (l ∷ []) (map (λ _. l) outs) i a.outs_are
       (each_shallow l outs (first_shallow l [] ins i h))
-      (subst (λ (m : ℕ). Gives (CastKind m) (stream l ∷ []) (map stream (map (λ _. l) outs))) (is_same (length outs) n a.holds)
+      (subst (λ (m : ℕ). Gives (CastKind m) (stream l ∷ []) (map stream (map (λ _. l) outs))) (eqb-true (length outs) n a.holds)
       (subst (λ (ss : Streams). Gives (CastKind (length outs)) (stream l ∷ []) ss) (sym (copied l outs))
       (cast-gives (length outs) (stream l) (flows l (first_shallow l [] ins i h), tt))))
   covered-sound kind.Drain c ins outs a h =
@@ -343,9 +337,9 @@ module _ (p : Program) (es : List Entries) (ok : accepted p ≡ true) (same : le
       let low = s.0 in
       let some = s.1 in
       let e : x.level ≡ suc (x.level - 1) = omega (arith, some) in
-      intersect-keeps x.term (is_below x.term (length p.terms) one.0) l r (x.level - 1) x.left x.right x.these x.those ins outs
+      intersect-keeps x.term (ltb-true x.term (length p.terms) one.0) l r (x.level - 1) x.left x.right x.these x.those ins outs
       (omega (arith, low, e))
-      (is_same l (length x.these) two.0) (is_same r (length x.those) two.1)
+      (eqb-true l (length x.these) two.0) (eqb-true r (length x.those) two.1)
       (i ∙ ap (λ (n : ℕ). met_labels p x.term n x.left x.these ++ met_labels p x.term n x.right x.those) e)
       (a.outs_are ∙ ap (λ (n : ℕ). met_labels p x.term n (bit_or x.left x.right) (x.these ++ x.those)) e)
   covered-sound (kind.Array tensor) c ins outs a h =
@@ -353,8 +347,8 @@ module _ (p : Program) (es : List Entries) (ok : accepted p ≡ true) (same : le
       let f = x.factor in
       let one = and_parts _ _ a.holds in
       let two = and_parts _ _ one.1 in
-      array-keeps x.term (is_below x.term (length p.terms) one.0) tensor f ins outs (is_below f (factor_count p x.term) two.0)
-      (is_same tensor (plan_access (plan_at p x.term) f).tensor two.1)
+      array-keeps x.term (ltb-true x.term (length p.terms) one.0) tensor f ins outs (ltb-true f (factor_count p x.term) two.0)
+      (eqb-true tensor (plan_access (plan_at p x.term) f).tensor two.1)
       (just-these (bottom_label p x.term (Rank f) ∷ []) ins a.ins_are) a.outs_are
   covered-sound kind.Mul c ins outs a h = absurd c
   covered-sound kind.Add c ins outs a h = absurd c

@@ -30,7 +30,7 @@ use Rattle.label_rules.specs.Named.{tree_level}
 use Rattle.label_rules.specs.TermLabels.{plan_at, bottom_label, partial_labels, plan_coefficient, factor_count, loop_count}
 use Rattle.label_rules.specs.Rules.{takes_constant}
 use Rattle.label_rules.specs.Holding.{IsPlain, Shallow, Keeps}
-use Rattle.label_rules.proofs.rules.TermRules.{matched, keeps, flows, depth_is}
+use Rattle.label_rules.proofs.rules.TermRules.{matched, keeps, flows, depth_is, one-alone}
 use Rattle.label_rules.proofs.rules.SumRule.{long, all-is, coefficient-is, two}
 
 -- ---- constants
@@ -116,10 +116,6 @@ module _ (p : Program) (es : List Entries) (ok : accepted p ≡ true) (same : le
         by_case true e (inr z) = absurd z
         by_case false e z = absurd z
 
-    one_label : (l k : Label) → IsOneOf l (k ∷ []) → l ≡ k
-    one_label l k (inl e) = e
-    one_label l k (inr y) = absurd y
-
     pub whole-keeps : (ins outs : List Label) → PortsAllow (partial_labels p t (factor_count p t) ∷ (bottom_label p t (Literal (plan_coefficient p t)) ∷ []) ∷ []) ins
         → outs ≡ bottom_label p t Whole ∷ [] → Keeps (storages_of p es) stream Shallow kind.Mul ins outs
     whole-keeps ins outs i o =
@@ -127,7 +123,7 @@ module _ (p : Program) (es : List Entries) (ok : accepted p ≡ true) (same : le
         let a : stream x.0 ≡ all (Partial (length d_t.accesses)) =
         products-alike (factor_count p t) x.0 x.3 ∙ ap (λ (n : ℕ). all (Partial n)) m.number in
         let b : stream x.1 ≡ all (Literal d_t.coefficient) =
-        ap stream (one_label x.1 _ x.4) ∙ all-is p es ok same t inside (Literal (plan_coefficient p t))
+        ap stream (one-alone x.1 _ x.4) ∙ all-is p es ok same t inside (Literal (plan_coefficient p t))
         ∙ ap (λ (n : ℕ). all (Literal n)) (coefficient-is p es ok same t inside) in
         let few = m.few_loops in
         keeps p es ok same kind.Mul ins outs (x.0 ∷ x.1 ∷ []) _ x.2 o ((low, some), tt)
@@ -140,7 +136,7 @@ module _ (p : Program) (es : List Entries) (ok : accepted p ≡ true) (same : le
     product-keeps k ins outs h l i o =
         let x = two p es ok same t inside (partial_labels p t k) (bottom_label p t (FactorValue k) ∷ []) ins i in
         let a = products-alike k x.0 x.3 in
-        let b : stream x.1 ≡ all (FactorValue k) = ap stream (one_label x.1 _ x.4) ∙ all-is p es ok same t inside (FactorValue k) in
+        let b : stream x.1 ≡ all (FactorValue k) = ap stream (one-alone x.1 _ x.4) ∙ all-is p es ok same t inside (FactorValue k) in
         let few = m.few_loops in
         let n = m.number in
         keeps p es ok same kind.Mul ins outs (x.0 ∷ x.1 ∷ []) _ x.2 o ((low, some), tt)
