@@ -1,6 +1,8 @@
-//! Tests of the readers: words, statements, program files, tensor files and stored tensors.
+//! Tests of the readers: words, statements, expressions, program files, tensor files and stored tensors.
 #![tactic(auto)]
 
+#[cfg(test)]
+mod expressions;
 #[cfg(test)]
 mod programs;
 #[cfg(test)]
