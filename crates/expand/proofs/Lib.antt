@@ -12,3 +12,4 @@ pub mod Places
 pub mod Kept
 pub mod MapInPlace
 pub mod Lengths
+pub mod Products

@@ -1,3 +1,4 @@
 pub mod Scopes
 pub mod Counting
 pub mod Meaning
+pub mod Plain
