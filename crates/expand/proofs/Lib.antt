@@ -1,3 +1,4 @@
+mod Worked
 pub mod Laws
 pub mod Over
 pub mod Counted
