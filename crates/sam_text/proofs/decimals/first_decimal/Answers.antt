@@ -1,5 +1,5 @@
 -- The digits behind the gaps are the first word.
-use Rattle.std.proofs.Common.{◌≡◌, ◌-◌, ◌<◌, ◌∷◌, List, Bool, true, false, not, refl, length, get_or, take, drop, arith, ap, sym, ◌∙◌}
+use Rattle.std.proofs.Common.{◌≡◌, ◌-◌, ◌<◌, ◌∷◌, Bool, true, false, not, refl, length, get_or, take, drop, arith, ap, sym, ◌∙◌}
 use Rattle.std.proofs.lemmas.List.{length-drop, length-take-le, take_all}
 use Rattle.sam_text.specs.Bytes.{is_gap}
 use Rattle.sam_text.specs.Words.{words}
