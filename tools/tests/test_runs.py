@@ -39,6 +39,14 @@ def dumped(page, anchor):
     return subprocess.run(words, capture_output=True, text=True, timeout=60).stdout
 
 
+def pictured(page, anchor, png):
+    """The bytes of a picture that the browser takes of a page."""
+    words = [BROWSER, "--headless", "--no-sandbox", "--disable-gpu", "--window-size=1000,1000", f"--screenshot={png}", f"file://{page}{anchor}"]
+    subprocess.run(words, capture_output=True, timeout=60)
+    with open(png, "rb") as file:
+        return file.read()
+
+
 @unittest.skipUnless(os.path.exists(BUILT), "the program isn't built")
 class Runs(unittest.TestCase):
     def setUp(self):
@@ -77,6 +85,9 @@ class Runs(unittest.TestCase):
         begun = dumped(self.page, "#channel7@0")
         self.assertTrue("Channel 7: product 0 1 3 rank 1, 0 of 3 tokens sent" in begun)
         self.assertEqual(begun.count('class="unsent"'), 3)
+        pictures = [pictured(self.page, anchor, os.path.join(self.folder.name, "page.png")) for anchor in ("#channel7@0", "#channel7", "#channel5")]
+        self.assertEqual(len(set(pictures)), 3)
+        self.assertTrue(all(picture.startswith(b"\x89PNG") and len(picture) > 20_000 for picture in pictures))
 
     @unittest.skipUnless(shutil.which("dot") and BROWSER, "there is no graphviz or no browser")
     def test_page_of_a_stall(self):
