@@ -1,0 +1,4 @@
+pub mod Arguments
+pub mod WordLemmas
+pub mod LabelLaw
+mod Worked
