@@ -1,5 +1,8 @@
 pub mod Views
 pub mod Held
 pub mod Keeping
-pub mod Ended
+pub mod Done
+pub mod Sends
+pub mod Takes
+pub mod Rounds
 pub mod Worked

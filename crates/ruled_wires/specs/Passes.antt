@@ -1,7 +1,7 @@
 -- What a pass of a wire knows.
 use Rattle.crossbeam_channel.specs.Claims.{Pass, view}
 use Rattle.ruled_wires.specs.declared.known.Known.{Known}
-use Rattle.ruled_wires.specs.declared.message.Sent.{Sent}
+use Rattle.ruled_wires.specs.declared.message.Message.{Message}
 
-abbrev pub known : Pass Sent Known → Known
+abbrev pub known : Pass Message Known → Known
 known p = view p

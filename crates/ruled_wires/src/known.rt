@@ -9,8 +9,9 @@ pub struct Known {
     pub takes: bool,
     pub stream: LinkedList<Token>,
     pub capacity: u64,
-    pub put: u64,
-    pub put_lost: bool,
-    pub taken: u64,
-    pub took_lost: bool,
+    pub sent: u64,
+    pub messages: u64,
+    pub sent_lost: bool,
+    pub received: u64,
+    pub got_lost: bool,
 }

@@ -1,14 +1,14 @@
 //! The rule of a wire as the protocol of its channel, and the kinds of step that keep it.
 
 use crate::known::Known;
-use crate::message::Sent;
+use crate::message::Message;
 use crossbeam_channel::protocol::{Lesson, Outcome, Protocol, Split};
 use std::marker::{Brand, PhantomData};
 
 /// The rule of a wire.
 pub struct Wired;
 
-impl Protocol<Sent, Known> for Wired {
+impl Protocol<Message, Known> for Wired {
     ghost use Rattle.ruled_wires.specs.Rule.{Wire, unmade};
 
     ghost holds = { λ items views. Wire items views };
@@ -43,35 +43,35 @@ impl<C: Chosen> Split<Known> for Cut<C> {
     ghost use Rattle.std.specs.Prelude.{false};
     ghost use Rattle.ruled_wires.specs.Rule.{sender_view, receiver_view};
 
-    ghost left = { λ v. sender_view C.stream C.capacity 0 false };
+    ghost left = { λ v. sender_view C.stream C.capacity 0 0 false };
 
     ghost right = { λ v. receiver_view C.stream C.capacity 0 false };
 }
 
-/// A put: the sender knows of one message more.
-pub struct Puts;
+/// A message is sent: the sender knows of it.
+pub struct Sends;
 
-impl Outcome<Sent, Known> for Puts {
+impl Outcome<Message, Known> for Sends {
     ghost use Rattle.std.specs.Prelude.{◌≡◌};
-    ghost use Rattle.ruled_wires.specs.Rule.{after_put};
+    ghost use Rattle.ruled_wires.specs.Rule.{after_send};
 
-    ghost then = { λ v x w. w ≡ after_put v x };
+    ghost then = { λ v x w. w ≡ after_send v x };
 }
 
-impl Lesson<Sent, Known> for Puts {
+impl Lesson<Message, Known> for Sends {
     ghost fact = { λ v items. Unit {0} };
 }
 
-/// A take: the message is the next one of the stream, and the receiver knows of it.
-pub struct Takes;
+/// A message is received: it has the next tokens of the stream, and the receiver knows of it.
+pub struct Receives;
 
-impl Outcome<Sent, Known> for Takes {
+impl Outcome<Message, Known> for Receives {
     ghost use Rattle.std.specs.Prelude.{◌≡◌};
-    ghost use Rattle.ruled_wires.specs.Rule.{after_take, IsNext};
+    ghost use Rattle.ruled_wires.specs.Rule.{after_receive, AreNext, IsSized};
 
-    ghost then = { λ v x w. IsNext v.stream v.taken x × (w ≡ after_take v x) };
+    ghost then = { λ v x w. AreNext v.stream v.received x × IsSized x × (w ≡ after_receive v x) };
 }
 
-impl Lesson<Sent, Known> for Takes {
+impl Lesson<Message, Known> for Receives {
     ghost fact = { λ v items. Unit {0} };
 }

@@ -10,5 +10,5 @@ bounded_with-requires-clause-rule g c = begins
 
 pub another-theirs-requires-clause-rule : goal.another-theirs-requires-clause-rule
 another-theirs-requires-clause-rule g c =
-    subst (λ (v : Known). Forks Wire c.in_ok-sender.mine.id v (sender_view g.C.Chosen.stream g.C.Chosen.capacity 0 false) (receiver_view g.C.Chosen.stream g.C.Chosen.capacity 0 false))
+    subst (λ (v : Known). Forks Wire c.in_ok-sender.mine.id v (sender_view g.C.Chosen.stream g.C.Chosen.capacity 0 0 false) (receiver_view g.C.Chosen.stream g.C.Chosen.capacity 0 false))
     (sym c.in_ok-sender.ensures.3) (forks c.in_ok-sender.mine.id g.C.Chosen.stream g.C.Chosen.capacity)
