@@ -9,20 +9,20 @@ use Rattle.block_core.proofs.Standing.{drop-at}
 use Rattle.plays.proofs.Lists.{same_some, get_set_here, get_set_there}
 use Rattle.plays.proofs.Moves.{takes_more, puts_more, takes_split, puts_split, takes_here, takes_there, puts_here, puts_there}
 use Rattle.ruled_wires.specs.declared.message.Sent.TheVariants as sent
-use Rattle.ruled_wires.specs.Ends.{End, after_message}
+use Rattle.ruled_wires.specs.Ends.{End, after_message, keeping}
 use Rattle.block_threads.specs.Working.{HaveCounts, taken_after, put_after}
 
 -- one end counts one more
-pub counts_set : (f f' : ℕ → ℕ) (es : List End) (p : ℕ) (e : End) (t : Token) → HaveCounts f es → slice_get es p ≡ Some e
-    → f' p ≡ f p + 1 → ((q : ℕ) → (q ≡ p → ⊥) → f' q ≡ f q) → HaveCounts f' (set es p (after_message e (sent.Token t)))
-counts_set f f' es p e t have at here there q x is =
+pub counts_set : (f f' : ℕ → ℕ) (es : List End) (p k : ℕ) (e : End) (t : Token) → HaveCounts f es → slice_get es p ≡ Some e
+    → f' p ≡ f p + 1 → ((q : ℕ) → (q ≡ p → ⊥) → f' q ≡ f q) → HaveCounts f' (set es p (keeping k (after_message e (sent.Token t))))
+counts_set f f' es p k e t have at here there q x is =
     ⊎_elim (λ (same : q ≡ p).
-    let y : End = after_message e (sent.Token t) in
+    let y : End = keeping k (after_message e (sent.Token t)) in
     let are : y ≡ x = same_some y x (sym (get_set_here es p y (slice_get_within es p e at)) ∙ ap (slice_get (set es p y)) (sym same) ∙ is) in
     let was = have p e at in
-    (ap (λ (z : End). z.count) (sym are) ∙ ap (λ k. k + 1) was.0 ∙ sym here ∙ ap f' (sym same), ap (λ (z : End). z.lost) (sym are) ∙ was.1))
+    (ap (λ (z : End). z.count) (sym are) ∙ ap (λ c. c + 1) was.0 ∙ sym here ∙ ap f' (sym same), ap (λ (z : End). z.lost) (sym are) ∙ was.1))
     (λ (other : q ≡ p → ⊥).
-    let was = have q x (sym (get_set_there es p q (after_message e (sent.Token t)) other) ∙ is) in
+    let was = have q x (sym (get_set_there es p q (keeping k (after_message e (sent.Token t))) other) ∙ is) in
     (was.0 ∙ sym (there q other), was.1)) (cases_eq q p)
 
 pub counts_same : (f f' : ℕ → ℕ) (es : List End) → HaveCounts f es → ((q : ℕ) → f' q ≡ f q) → HaveCounts f' es

@@ -9,18 +9,18 @@ use Rattle.stream_tokens.specs.Nest.{IsStream}
 use Rattle.stream_tokens.proofs.Ending.{EndsWithin, IsStream-ends}
 use Rattle.ruled_wires.specs.declared.message.Sent.{Sent}
 use Rattle.ruled_wires.specs.declared.message.Sent.TheVariants as sent
-use Rattle.ruled_wires.specs.Ends.{End, wire_stream, after_message, is_done_in, is_ended}
+use Rattle.ruled_wires.specs.Ends.{End, wire_stream, after_message, keeping, is_done_in, is_ended}
 use Rattle.block_core.specs.Ports.{AllStreams}
 use Rattle.plays.proofs.Lists.{same_some, get_set_here, get_set_there}
 use Rattle.block_threads.specs.Ports.{channels_of, streams_of, IsEnded, HasLost}
 
-pub after_channel : (e : End) (x : Sent) → (after_message e x).channel ≡ e.channel
-after_channel e (sent.Token t) = refl
-after_channel e sent.Lost = refl
+pub after_channel : (k : ℕ) (e : End) (x : Sent) → (keeping k (after_message e x)).channel ≡ e.channel
+after_channel k e (sent.Token t) = refl
+after_channel k e sent.Lost = refl
 
-pub after_lost : (e : End) (x : Sent) → e.lost ≡ true → (after_message e x).lost ≡ true
-after_lost e (sent.Token t) was = was
-after_lost e sent.Lost was = refl
+pub after_lost : (k : ℕ) (e : End) (x : Sent) → e.lost ≡ true → (keeping k (after_message e x)).lost ≡ true
+after_lost k e (sent.Token t) was = was
+after_lost k e sent.Lost was = refl
 
 none-done : (n : ℕ) → is_done_in [] n ≡ false
 none-done zero = refl
@@ -100,7 +100,9 @@ pub stream_of_end : (streams : List (List Token)) (es fs : List End) (p : ℕ) (
     → AllStreams (streams_of streams fs) → slice_get es p ≡ Some e → IsStream (wire_stream streams e.channel)
 stream_of_end streams es fs p e same all at = stream_in streams es p e (subst AllStreams (sym (same_streams streams es fs same)) all) at
 
-pub lost_here : (es fs : List End) (p : ℕ) (e : End) (x : Sent) → slice_get es p ≡ Some e → x ≡ sent.Lost → fs ≡ set es p (after_message e x) → HasLost fs
-lost_here es fs p e x at lost is =
-    let now : fs ≡ set es p (after_message e sent.Lost) = is ∙ ap (λ y. set es p (after_message e y)) lost in
-    (p, after_message e sent.Lost, ap (λ l. slice_get l p) now ∙ get_set_here es p (after_message e sent.Lost) (slice_get_within es p e at), refl)
+pub lost_here : (es fs : List End) (p k : ℕ) (e : End) (x : Sent) → slice_get es p ≡ Some e → x ≡ sent.Lost → fs ≡ set es p (keeping k (after_message e x))
+    → HasLost fs
+lost_here es fs p k e x at lost is =
+    let y : End = keeping k (after_message e sent.Lost) in
+    let now : fs ≡ set es p y = is ∙ ap (λ z. set es p (keeping k (after_message e z))) lost in
+    (p, y, ap (λ l. slice_get l p) now ∙ get_set_here es p y (slice_get_within es p e at), refl)

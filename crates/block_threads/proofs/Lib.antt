@@ -1,5 +1,6 @@
 pub mod Ends
 pub mod Counts
+pub mod Sending
 pub mod MovesMade
 pub mod Running
 pub mod Taking

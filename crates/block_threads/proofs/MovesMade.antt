@@ -17,10 +17,11 @@ use Rattle.block_core.proofs.Arity.{fits-length, outputs-length, take-in-range, 
 use Rattle.plays.proofs.Lists.{same_some}
 use Rattle.stepper.proofs.Wishes.{wish_take, wish_put, wish_finished}
 use Rattle.ruled_wires.specs.declared.message.Sent.TheVariants as sent
-use Rattle.ruled_wires.specs.Ends.{End, wire_stream, after_message, is_ended, is_done_in}
+use Rattle.ruled_wires.specs.Ends.{End, wire_stream, after_message, keeping, is_ended, is_done_in, AllOnwards}
 use Rattle.block_threads.specs.Ports.{channels_of, streams_of, IsFresh, IsThrough}
 use Rattle.block_threads.specs.Working.{StandsWired, HasMoved, HaveCounts, taken_after, put_after}
 use Rattle.block_threads.proofs.Ends.{same_streams, stream_of_end, not-done, channels_set}
+use Rattle.block_threads.proofs.Sending.{moved_onwards}
 use Rattle.block_threads.proofs.Counts.{counts_set, counts_same, take_counts, take_counts_there, take_puts, put_counts, put_counts_there, put_takes, take_token, put_token}
 
 -- the stream at a port is that of the end there
@@ -113,20 +114,21 @@ module _ {B : Type 0} (step : Ghosts B) (streams : List (List Token)) (block : B
           sym (port_stream streams outs' p e at) ∙ ap (port p) (same_streams streams outs' outs h.same_outs ∙ wired.gives) ∙ sym (passes.through.put p) in
           (counts.1, ap (λ l. slice_get l e.count) stream ∙ ap (slice_get (puts p Ms)) counts.0 ∙ put_token Ms n p t next)
 
-      pub put_moved : (e : End) (block'' : B) (outs'' : List End) → slice_get outs' p ≡ Some e → outs'' ≡ set outs' p (after_message e (sent.Token t))
+      pub put_moved : (e : End) (block'' : B) (outs'' : List End) → slice_get outs' p ≡ Some e
+          → AllOnwards (set outs' p (keeping (e.kept + 1) (after_message e (sent.Token t)))) outs''
           → step.kind block'' ≡ step.kind block' → step.may_refuse block'' ≡ step.may_refuse block'
           → StandsAfterPut (step.stands block') (step.stands block'') (step.kind block')
           → HasMoved step streams block ins outs (n + 1) block'' ins' outs''
-      put_moved e block'' outs'' at is kind refusal after = record {
-        same_kind = kind ∙ h.same_kind;
-        same_refusal = refusal ∙ h.same_refusal;
-        stands = after (streams_of streams ins) n p t h.stands (ap (λ k. slice_get (moves k (streams_of streams ins)) n) h.same_kind ∙ next);
-        same_ins = h.same_ins;
-        same_outs = ap channels_of is ∙ channels_set outs' p e (after_message e (sent.Token t)) at refl ∙ h.same_outs;
-        taken = counts_same (taken_after Ms n) (taken_after Ms (n + 1)) ins' h.taken (put_takes Ms n p t next);
-        put = subst (HaveCounts (put_after Ms (n + 1))) (sym is)
-            (counts_set (put_after Ms n) (put_after Ms (n + 1)) outs' p e t h.put at (put_counts Ms n p t next) (put_counts_there Ms n p t next));
-      }
+      put_moved e block'' outs'' at on kind refusal after = moved_onwards step streams block ins outs (n + 1) block'' ins'
+          (set outs' p (keeping (e.kept + 1) (after_message e (sent.Token t)))) outs'' on record {
+            same_kind = kind ∙ h.same_kind;
+            same_refusal = refusal ∙ h.same_refusal;
+            stands = after (streams_of streams ins) n p t h.stands (ap (λ k. slice_get (moves k (streams_of streams ins)) n) h.same_kind ∙ next);
+            same_ins = h.same_ins;
+            same_outs = channels_set outs' p e (keeping (e.kept + 1) (after_message e (sent.Token t))) at refl ∙ h.same_outs;
+            taken = counts_same (taken_after Ms n) (taken_after Ms (n + 1)) ins' h.taken (put_takes Ms n p t next);
+            put = counts_set (put_after Ms n) (put_after Ms (n + 1)) outs' p (e.kept + 1) e t h.put at (put_counts Ms n p t next) (put_counts_there Ms n p t next);
+          }
 
     module _ (p : ℕ) (t : Token) (next : slice_get Ms n ≡ Some (Taking p t)) where
       pub take_within : p < length ins'
@@ -155,18 +157,19 @@ module _ {B : Type 0} (step : Ghosts B) (streams : List (List Token)) (block : B
           let within : e.count < length s = slice_get_within s e.count t (take_next e at) in
           ap (λ b. b || is_done_in s e.count) (h.taken p e at).1 ∙ not-done s (stream_of_end streams ins' ins p e h.same_ins fits.streams at) e.count within
 
-      pub take_moved : (e : End) (block'' : B) (ins'' : List End) → slice_get ins' p ≡ Some e → ins'' ≡ set ins' p (after_message e (sent.Token t))
+      pub take_moved : (e : End) (kept : ℕ) (block'' : B) (ins'' : List End) → slice_get ins' p ≡ Some e
+          → ins'' ≡ set ins' p (keeping kept (after_message e (sent.Token t)))
           → step.kind block'' ≡ step.kind block' → step.may_refuse block'' ≡ step.may_refuse block'
           → StandsAfterTake (step.stands block') (step.stands block'') (step.kind block') p t
           → HasMoved step streams block ins outs (n + 1) block'' ins'' outs'
-      take_moved e block'' ins'' at is kind refusal after = record {
+      take_moved e kept block'' ins'' at is kind refusal after = record {
         same_kind = kind ∙ h.same_kind;
         same_refusal = refusal ∙ h.same_refusal;
         stands = after (streams_of streams ins) n h.stands (ap (λ k. slice_get (moves k (streams_of streams ins)) n) h.same_kind ∙ next);
-        same_ins = ap channels_of is ∙ channels_set ins' p e (after_message e (sent.Token t)) at refl ∙ h.same_ins;
+        same_ins = ap channels_of is ∙ channels_set ins' p e (keeping kept (after_message e (sent.Token t))) at refl ∙ h.same_ins;
         same_outs = h.same_outs;
         taken = subst (HaveCounts (taken_after Ms (n + 1))) (sym is)
-            (counts_set (taken_after Ms n) (taken_after Ms (n + 1)) ins' p e t h.taken at (take_counts Ms n p t next) (take_counts_there Ms n p t next));
+            (counts_set (taken_after Ms n) (taken_after Ms (n + 1)) ins' p kept e t h.taken at (take_counts Ms n p t next) (take_counts_there Ms n p t next));
         put = counts_same (put_after Ms n) (put_after Ms (n + 1)) outs' h.put (take_puts Ms n p t next);
       }
 

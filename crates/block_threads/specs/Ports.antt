@@ -1,5 +1,5 @@
 -- The ends of a block's wires, in port order.
-use Rattle.std.specs.Prelude.{◌≡◌, ℕ, true, false, List, map, Some, slice_get, length}
+use Rattle.std.specs.Prelude.{◌≡◌, ◌<◌, ℕ, true, false, List, map, Some, slice_get, length}
 use Rattle.stream_tokens.specs.declared.Token.{Token}
 use Rattle.ruled_wires.specs.Ends.{End, wire_stream, fresh_end, is_ended}
 
@@ -13,6 +13,10 @@ streams_of streams es = map (λ e. wire_stream streams e.channel) es
 -- nothing went through the end yet
 abbrev pub IsFresh : End → Type 0
 IsFresh e = e ≡ fresh_end e.channel
+
+-- one more can be put on the end
+abbrev pub HasRoom : End → Type 0
+HasRoom e = e.kept < 64
 
 -- Done or Lost went through the end
 abbrev pub IsEnded : List (List Token) → End → Type 0

@@ -4,11 +4,12 @@ ghost use Rattle.std.specs.Prelude.{◌≡◌, ◌⊎◌, true, false, length};
 ghost use Rattle.std.specs.List.{All};
 ghost use Rattle.block_core.specs.Ports.{AllStreams};
 ghost use Rattle.block_core.specs.Kind.{moves};
-ghost use Rattle.block_threads.specs.Ports.{channels_of, streams_of, IsFresh, IsEnded, IsThrough, HasLost};
+ghost use Rattle.ruled_wires.specs.Ends.{IsEmptied};
+ghost use Rattle.block_threads.specs.Ports.{channels_of, streams_of, IsFresh, IsEnded, IsThrough, HasLost, HasRoom};
 ghost use Rattle.block_threads.specs.Working.{StandsWired};
 
 use crate::gate::Gate;
-use crate::hands::{drain_all, lose_all, put_to, take_from};
+use crate::hands::{drain_all, end_all, put_to, send_all, send_before_wait, take_from};
 use block_core::{BlockStep, Wish};
 use ruled_wires::{Rx, Sent, Streams, Tx};
 use std::sync::Wait;
@@ -22,7 +23,8 @@ pub struct Worked<W: Streams, B> {
     pub lost: bool,
 }
 
-/// Makes the moves of a block on its wires, which have one end for each port.
+/// Makes the moves of a block on its wires, which have one end for each port. What it puts is sent when an output keeps as much as it
+/// may, before a take that may wait, and before the work ends.
 ///
 /// Where the block finds no memory, or a `Lost` is taken, it puts `Lost` on each output that has not carried `Done`, takes
 /// from each input up to `Done` or `Lost`, and ends with `lost`. Otherwise the block is finished, and each stream went through.
@@ -44,11 +46,13 @@ pub fn work<W: Streams, B: BlockStep, G: Gate, R: Wait>(
     ensures through { result.lost ≡ false → All (IsThrough W.streams) result.ins.items × All (IsThrough W.streams) result.outs.items }
     ensures ended { result.lost ≡ true → All (IsEnded W.streams) result.ins.items × All (IsEnded W.streams) result.outs.items }
     ensures cause { result.lost ≡ true → (B.may_refuse block ≡ true) ⊎ HasLost result.ins.items }
+    ensures emptied { All IsEmptied result.outs.items }
 {
     gate.enter(number);
     for _ in rt.forever() {
         match block.wish() {
             Wish::Finished => {
+                send_all(rt, &mut outs);
                 return Worked {
                     block,
                     ins,
@@ -61,6 +65,7 @@ pub fn work<W: Streams, B: BlockStep, G: Gate, R: Wait>(
                 block.did_put();
             }
             Wish::Take(port) => {
+                send_before_wait(rt, ins.as_slice(), port, &mut outs);
                 let Sent::Token(t) = take_from(rt, &mut ins, port) else {
                     return give_up(rt, block, ins, outs);
                 };
@@ -81,15 +86,17 @@ fn give_up<W: Streams, B, R: Wait>(
     mut ins: Vec<Rx<W>>,
     mut outs: Vec<Tx<W>>,
 ) -> Worked<W, B>
-    requires { AllStreams (streams_of W.streams outs.items) }
+    requires whole { AllStreams (streams_of W.streams outs.items) }
+    requires room { All HasRoom outs.items }
     ensures lost { result.lost ≡ true }
     ensures same_block { result.block ≡ block }
     ensures same_ins { channels_of result.ins.items ≡ channels_of ins.items }
     ensures same_outs { channels_of result.outs.items ≡ channels_of outs.items }
     ensures ended { All (IsEnded W.streams) result.ins.items × All (IsEnded W.streams) result.outs.items }
     ensures cause { HasLost ins.items → HasLost result.ins.items }
+    ensures emptied { All IsEmptied result.outs.items }
 {
-    lose_all(rt, outs.as_mut_slice());
+    end_all(rt, outs.as_mut_slice());
     drain_all(rt, ins.as_mut_slice());
     Worked {
         block,
