@@ -1,0 +1,4 @@
+pub mod SameRooms
+pub mod OwnMade
+pub mod Tried
+mod Worked
