@@ -1,0 +1,5 @@
+pub mod Values
+pub mod Kinds
+pub mod Graphs
+pub mod Answers
+pub mod Form
