@@ -1,6 +1,6 @@
 //! Blocks.
 
-ghost use Rattle.std.specs.Prelude.{◌≡◌, codes, map};
+ghost use Rattle.std.specs.Prelude.{codes, map};
 ghost use Rattle.serde_json.specs.View.{view};
 ghost use Rattle.graph_reading.specs.Values.{all_read, value_under, list_in};
 ghost use Rattle.graph_reading.specs.Graphs.{kind_in, block_in};

@@ -1,6 +1,6 @@
 //! Channels.
 
-ghost use Rattle.std.specs.Prelude.{◌≡◌, codes, map};
+ghost use Rattle.std.specs.Prelude.{codes, map};
 ghost use Rattle.serde_json.specs.View.{view};
 ghost use Rattle.graph_reading.specs.Values.{all_read, value_under, list_in};
 ghost use Rattle.graph_reading.specs.Graphs.{end_in, channel_label, channel_in};

@@ -1,6 +1,5 @@
 //! The graph that a text spells.
 
-ghost use Rattle.std.specs.Prelude.{◌≡◌};
 ghost use Rattle.serde_json.specs.View.{view};
 ghost use Rattle.graph_reading.specs.Graphs.{graph_in, graph_of};
 ghost use Rattle.graph_reading.specs.Answers.{Answers};
