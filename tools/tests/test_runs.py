@@ -76,6 +76,21 @@ class Runs(unittest.TestCase):
         with self.assertRaises(Refused):
             streams_of(program)
 
+    def test_faults_have_the_names_of_the_users_files(self):
+        program = os.path.join(self.folder.name, "p.sam")
+        shutil.copy(os.path.join(EXAMPLES, "checked-matrix-product", "p.sam"), program)
+        for words in (["draw", program, "--count"], ["page", program], ["study", program]):
+            done = tool(*words)
+            self.assertEqual((done.returncode, done.stdout), (1, ""), words)
+            self.assertIn(f"{words[0]}: sam: missing B.tns", done.stderr)
+
+    def test_a_wrong_schedule_is_refused(self):
+        schedule = os.path.join(self.folder.name, "s.txt")
+        with open(schedule, "w", encoding="ascii") as file:
+            file.write("0\n3 4\n")
+        done = tool("page", os.path.join(EXAMPLES, "plain-product", "p.sam"), "--schedule", schedule)
+        self.assertIn("page: sam: schedule line 2", done.stderr)
+
     @unittest.skipUnless(shutil.which("dot") and BROWSER, "there is no graphviz or no browser")
     def test_page_in_a_browser(self):
         program = os.path.join(EXAMPLES, "plain-product", "p.sam")
