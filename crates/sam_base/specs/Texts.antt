@@ -27,14 +27,14 @@ text_line text = text ++ 10 ∷ []
 abbrev pub state_of : Bool → List ℕ
 state_of full = if full then codes " full channel " else codes " empty channel "
 
--- one waiting block
-abbrev pub waiting_of : Waiting → List ℕ
-waiting_of w = codes "sam: stalled: block " ++ decimal w.block ++ text_line (state_of w.full ++ decimal w.channel)
+-- one waiting block, behind a head
+abbrev pub waiting_line : List ℕ → Waiting → List ℕ
+waiting_line head w = (head ++ decimal w.block) ++ text_line (state_of w.full ++ decimal w.channel)
 
--- the waiting blocks, a line each
-abbrev pub stalled_of : List Waiting → List ℕ
-stalled_of [] = []
-stalled_of (w ∷ ws) = waiting_of w ++ stalled_of ws
+-- the waiting blocks, a line each behind the same head
+abbrev pub waiting_lines : List ℕ → List Waiting → List ℕ
+waiting_lines head [] = []
+waiting_lines head (w ∷ ws) = waiting_line head w ++ waiting_lines head ws
 
 -- what is said of a fault
 abbrev pub text_of : Fault → List ℕ
@@ -47,6 +47,6 @@ text_of (TooManyBlocks blocks) = text_line (codes "sam: " ++ decimal blocks ++ c
 text_of (NoSuchChannel channel) = text_line (codes "sam: no channel " ++ decimal channel)
 text_of (Tensor name kind line) =
     text_line (codes "sam: " ++ name ++ codes " line " ++ decimal line ++ codes ": " ++ tns_kind kind)
-text_of (Stalled blocks) = stalled_of blocks
+text_of (Stalled blocks) = waiting_lines (codes "sam: stalled: block ") blocks
 text_of WriteFault = text_line (codes "sam: write fault")
 text_of OutOfMemory = text_line (codes "sam: out of memory")

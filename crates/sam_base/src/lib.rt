@@ -7,7 +7,7 @@ mod texts;
 
 pub use faults::{Fault, NoteKind, ProgramKind, TnsKind, Waiting, status};
 pub use lists::{Items, Name, Nums};
-pub use texts::fault_text;
+pub use texts::{fault_text, waiting_lines};
 
 /// The most bytes of one file.
 pub const FILE_MOST: usize = 67_108_864;

@@ -2,7 +2,7 @@
 
 ghost use Rattle.std.specs.Prelude.{◌≡◌, ◌++◌, codes, decimal, IfOk, OnOk, OnErr};
 ghost use Rattle.sam_base.specs.Kinds.{note_kind, program_kind, tns_kind};
-ghost use Rattle.sam_base.specs.Texts.{text_line, stalled_of, state_of, text_of, waiting_of};
+ghost use Rattle.sam_base.specs.Texts.{text_line, state_of, text_of, waiting_line, waiting_lines};
 
 use crate::faults::{Fault, NoteKind, ProgramKind, TnsKind, Waiting};
 use crate::lists::Name;
@@ -165,22 +165,24 @@ fn state_text(full: bool) -> &'static str
     }
 }
 
-/// Appends the line of one waiting block.
-fn waiting_line(text: &mut Name, waiting: Waiting) -> Result<(), AllocError>
-    ensures { OnOk result (text.new ≡ text.old ++ waiting_of waiting) }
+/// Appends the line of one waiting block, behind a head.
+fn waiting_line(text: &mut Name, head: &str, waiting: Waiting) -> Result<(), AllocError>
+    ensures { OnOk result (text.new ≡ text.old ++ waiting_line head.now waiting) }
 {
-    numbered(text, "sam: stalled: block ", waiting.block)?;
+    numbered(text, head, waiting.block)?;
     numbered(text, state_text(waiting.full), waiting.channel)?;
     text.push(b'\n')?;
     Ok(())
 }
 
-fn stalled_lines(alloc: Global, blocks: &[Waiting]) -> Result<Name, AllocError>
-    ensures { IfOk result (λ text. text ≡ stalled_of blocks.now) }
+/// The lines of waiting blocks, each `block B full channel C` or `block B empty channel C` behind the head, which ends with
+/// the word `block` and a blank.
+pub fn waiting_lines(alloc: Global, head: &str, blocks: &[Waiting]) -> Result<Name, AllocError>
+    ensures { IfOk result (λ text. text ≡ waiting_lines head.now blocks.now) }
 {
     let mut text = Name::new(alloc);
     for waiting in blocks {
-        waiting_line(&mut text, *waiting)?;
+        waiting_line(&mut text, head, *waiting)?;
     }
     Ok(text)
 }
@@ -201,7 +203,7 @@ pub fn fault_text(alloc: Global, fault: &Fault) -> Result<Name, AllocError>
         Fault::TooManyBlocks(blocks) => number_line(alloc, "sam: ", *blocks, " blocks"),
         Fault::NoSuchChannel(channel) => number_line(alloc, "sam: no channel ", *channel, ""),
         Fault::Tensor { name, kind, line } => tensor_line(alloc, name, *kind, *line),
-        Fault::Stalled(blocks) => stalled_lines(alloc, blocks.as_slice()),
+        Fault::Stalled(blocks) => waiting_lines(alloc, "sam: stalled: block ", blocks.as_slice()),
         Fault::WriteFault => Name::from_slice(alloc, b"sam: write fault\n"),
         Fault::OutOfMemory => Name::from_slice(alloc, b"sam: out of memory\n"),
     }
