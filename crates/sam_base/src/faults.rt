@@ -59,6 +59,10 @@ pub enum ProgramKind {
     RepeatedVariable(Name),
     /// This variable stands at two dimensions that differ.
     DimMismatch(Name),
+    /// There are more expanded terms than a program may have.
+    ExpandedTerms,
+    /// An expanded term has more factors than a term may have.
+    ExpandedFactors,
     /// A term has no access.
     NoAccess,
     /// A term lacks this variable of the left side.

@@ -94,6 +94,8 @@ fn program_text(text: &mut Name, kind: &ProgramKind) -> Result<(), AllocError>
         ProgramKind::ArityMismatch(name) => named_kind(text, "ArityMismatch ", name),
         ProgramKind::RepeatedVariable(name) => named_kind(text, "RepeatedVariable ", name),
         ProgramKind::DimMismatch(name) => named_kind(text, "DimMismatch ", name),
+        ProgramKind::ExpandedTerms => word(text, "ExpandedTerms"),
+        ProgramKind::ExpandedFactors => word(text, "ExpandedFactors"),
         ProgramKind::NoAccess => word(text, "NoAccess"),
         ProgramKind::MissingResultVariable(name) => named_kind(
             text,
