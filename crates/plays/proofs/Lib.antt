@@ -12,3 +12,4 @@ pub mod Lists
 pub mod Tellings
 pub mod Rests
 pub mod Relays
+pub mod SameRooms

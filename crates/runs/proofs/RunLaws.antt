@@ -17,7 +17,7 @@ use Rattle.graph.specs.WholeStreams.{Consistent}
 use Rattle.plays.specs.Net.{Net, State, Finished, Reached}
 use Rattle.plays.proofs.Always.{always-kept}
 use Rattle.stepper.specs.NetOf.{net_of, rooms_of}
-use Rattle.stepper.specs.Endings.{waiting_list}
+use Rattle.stepper.specs.Endings.{waiting_list, EndsAt}
 use Rattle.stepper.proofs.GraphLaws.{one-end-of-graphs, room-suffices, graphs-are-wired}
 use Rattle.stepper.proofs.Stalling.{none_waiting, some_waiting}
 use Rattle.custard_lower.specs.Lowered.{Lowered, low, storages_of}
@@ -28,7 +28,7 @@ use Rattle.custard_lower.proofs.written.LowGraph.{low-lowered}
 use Rattle.machines.proofs.UnboundedRuns.{never-stalls}
 use Rattle.runs.proofs.CapacityLemmas.{unlimited}
 use Rattle.runs.specs.Capacities.{capacity_at}
-use Rattle.runs.specs.Runs.{EndsAt, AnsweredAt}
+use Rattle.runs.specs.Runs.{AnsweredAt}
 use Rattle.runs.specs.Laws.{RunsToOneAnswer, RunsToSomeAnswer, AmpleRoomFinishes, UnlimitedFinishes}
 
 -- the graph of an accepted program keeps what is promised of it

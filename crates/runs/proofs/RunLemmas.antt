@@ -12,11 +12,11 @@ use Rattle.sam_model.specs.ResultText.{result_text}
 use Rattle.graph.specs.declared.graphs.Graph.{Graph}
 use Rattle.plays.specs.Net.{Net, State, Finished}
 use Rattle.stepper.specs.NetOf.{net_of, rooms_of}
-use Rattle.stepper.specs.Endings.{waiting_list}
+use Rattle.stepper.specs.Endings.{waiting_list, EndsAt, StallsAt}
 use Rattle.custard_lower.specs.Lowered.{Lowered, low, storages_of}
 use Rattle.inputs.specs.Tensors.{AreStored}
 use Rattle.machines.proofs.ProgramMachines.{same-net}
-use Rattle.runs.specs.Runs.{EndsAt, RunsTo, LeavesListing, LeavesWaiting}
+use Rattle.runs.specs.Runs.{RunsTo, LeavesListing}
 
 module _ (p : Program) (g : Graph) (lowered : Lowered p g) (is_accepted : accepted p ≡ true) (es : List Entries)
     (storages : List Ranked) (are : AreStored p.tensors es storages) (caps : List (Option ℕ)) where
@@ -28,7 +28,7 @@ module _ (p : Program) (g : Graph) (lowered : Lowered p g) (is_accepted : accept
   ends_alike end ends = subst (λ (net : Net). EndsAt net (rooms_of caps) end) same ends
 
   -- it stalls
-  pub stalls_with : (list : List Waiting) → LeavesWaiting storages g caps list → RunsTo p es caps (Err (Stalled list))
+  pub stalls_with : (list : List Waiting) → StallsAt (net_of storages g) (rooms_of caps) list → RunsTo p es caps (Err (Stalled list))
   stalls_with list left = record {
     is_accepted = is_accepted;
     each = are.each;

@@ -2,7 +2,6 @@
 use Rattle.std.specs.Prelude.{◌≡◌, true, ℕ, List, Option, Result, Ok, Err, length}
 use Rattle.sam_base.specs.declared.faults.Fault.{Fault}
 use Rattle.sam_base.specs.declared.faults.Fault.TheVariants.{Stalled}
-use Rattle.sam_base.specs.declared.faults.Waiting.{Waiting}
 use Rattle.sam_model.specs.declared.tensors.Entries.{Entries}
 use Rattle.sam_model.specs.declared.tensors.Written.{Written}
 use Rattle.sam_model.specs.declared.program.Program.{Program}
@@ -11,18 +10,13 @@ use Rattle.sam_model.specs.Accepted.{accepted}
 use Rattle.sam_model.specs.ResultText.{result_text}
 use Rattle.graph.specs.declared.graphs.Graph.{Graph}
 use Rattle.graph.specs.Writers.{written_listing}
-use Rattle.plays.specs.Net.{Net, Rooms, State, Stuck, Finished, Reached}
+use Rattle.plays.specs.Net.{Net, State, Finished}
 use Rattle.stepper.specs.NetOf.{net_of, rooms_of}
-use Rattle.stepper.specs.Endings.{waiting_list}
+use Rattle.stepper.specs.Endings.{waiting_list, EndsAt, StallsAt}
 use Rattle.custard_lower.specs.Lowered.{low, storages_of}
 use Rattle.parts.specs.Parts.{Part}
 use Rattle.runs.specs.declared.running.Outcome.{Outcome}
 use Rattle.runs.specs.declared.running.Outcome.TheVariants.{Listing, Waits}
-
--- a state in which runs under these limits end: a play reaches it, and it is stuck
-pub record EndsAt (net : Net) (rooms : Rooms) (end : State) : Type 0 where
-  pub reached : Reached net rooms end
-  pub stuck : Stuck net rooms end
 
 -- what is answered at that state: the denoted tensor where all blocks are finished, else the blocks that wait
 abbrev pub AnsweredAt : Program → List Entries → Net → State → Result (List ℕ) Fault → Type 0
@@ -49,13 +43,6 @@ pub record LeavesListing (storages : List Ranked) (g : Graph) (caps : List (Opti
   pub finished : Finished (net_of storages g) end
   pub written : w ≡ written_listing storages g levels
 
--- it ended with these blocks waiting
-pub record LeavesWaiting (storages : List Ranked) (g : Graph) (caps : List (Option ℕ)) (list : List Waiting) : Type 0 where
-  pub end : State
-  pub ends : EndsAt (net_of storages g) (rooms_of caps) end
-  pub unfinished : ¬ Finished (net_of storages g) end
-  pub waiting : list ≡ waiting_list (net_of storages g) end
-
 abbrev pub Leaves : List Ranked → Graph → List (Option ℕ) → ℕ → Outcome → Type 0
 Leaves storages g caps levels (Listing w) = LeavesListing storages g caps levels w
-Leaves storages g caps levels (Waits list) = LeavesWaiting storages g caps list
+Leaves storages g caps levels (Waits list) = StallsAt (net_of storages g) (rooms_of caps) list

@@ -1,4 +1,3 @@
-pub mod SameRooms
 pub mod OwnMade
 pub mod Tried
 mod Worked

@@ -6,14 +6,14 @@ use Rattle.std.proofs.lemmas.List.{get_or-replicate}
 use Rattle.sam_base.specs.declared.faults.Waiting.{Waiting}
 use Rattle.plays.specs.Net.{Net, Rooms, State, Wired, Reached, Stuck, Finished, Suffices, all_channels}
 use Rattle.plays.proofs.Ends.{one-end, larger-suffices}
+use Rattle.plays.proofs.SameRooms.{same_reached, same_stuck}
 use Rattle.stepper.specs.declared.machine.finish.Ending.{Ending}
 use Rattle.stepper.specs.declared.machine.finish.Ending.TheVariants as ends
 use Rattle.stepper.specs.NetOf.{rooms_of}
-use Rattle.stepper.specs.Endings.{waiting_list}
-use Rattle.sam_sizing.specs.Least.{StallsAt, StallsUpTo, IsLeastWith}
+use Rattle.stepper.specs.Endings.{waiting_list, StallsAt}
+use Rattle.sam_sizing.specs.Least.{StallsUpTo, IsLeastWith}
 use Rattle.sam_sizing.specs.Trials.{EndsAs, LiesWithin}
 use Rattle.sam_sizing.specs.declared.bounds.Bounds.{Bounds}
-use Rattle.sam_sizing.proofs.SameRooms.{same_reached, same_stuck}
 
 -- ---- a run with one capacity on every channel
 
@@ -37,11 +37,10 @@ module _ (net : Net) (rooms : Rooms) (n : ℕ) (s : State) (wired : Wired net)
       subst (Finished net) (one-end net (all_channels n) s t wired reached_alike stuck_alike r k) finished
 
   -- it stalled, with these blocks waiting
-  unfinished_stalls : (list : List Waiting) → ¬ Finished net s → list ≡ waiting_list net s → StallsAt net n list
+  unfinished_stalls : (list : List Waiting) → ¬ Finished net s → list ≡ waiting_list net s → StallsAt net (all_channels n) list
   unfinished_stalls list unfinished waiting = record {
     end = s;
-    reached = reached_alike;
-    stuck = stuck_alike;
+    ends = record { reached = reached_alike; stuck = stuck_alike };
     unfinished = unfinished;
     waiting = waiting;
   }
@@ -60,10 +59,10 @@ ok-each (Err e) P each = tt
 
 -- ---- the least capacity
 
-pub stalls-not-suffices : (net : Net) (n : ℕ) (list : List Waiting) → StallsAt net n list → ¬ Suffices net n
-stalls-not-suffices net n list stalls enough = stalls.unfinished (enough stalls.end stalls.reached stalls.stuck)
+pub stalls-not-suffices : (net : Net) (n : ℕ) (list : List Waiting) → StallsAt net (all_channels n) list → ¬ Suffices net n
+stalls-not-suffices net n list stalls enough = stalls.unfinished (enough stalls.end stalls.ends.reached stalls.ends.stuck)
 
-pub stalls-from-one : (net : Net) (n : ℕ) (list : List Waiting) → 1 ≤ n → StallsAt net n list → StallsUpTo net n list
+pub stalls-from-one : (net : Net) (n : ℕ) (list : List Waiting) → 1 ≤ n → StallsAt net (all_channels n) list → StallsUpTo net n list
 stalls-from-one net zero list some stalls = absurd (omega (arith, some))
 stalls-from-one net (suc n) list some stalls = stalls
 

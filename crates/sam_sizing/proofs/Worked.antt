@@ -14,11 +14,11 @@ use Rattle.graph.specs.declared.graphs.Kind.TheVariants.{Root, Drain}
 use Rattle.plays.specs.Net.{Net, State, Wired, Suffices, all_channels, play, start}
 use Rattle.plays.proofs.Ends.{one-end, more-room}
 use Rattle.stepper.specs.declared.machine.finish.Ending.TheVariants.{Finished as RunFinished, Stalled}
-use Rattle.stepper.specs.Endings.{waiting_list}
+use Rattle.stepper.specs.Endings.{waiting_list, StallsAt}
 use Rattle.sam_sizing.specs.declared.least.Least.TheVariants.{Found, Above}
 use Rattle.sam_sizing.specs.declared.bounds.Bounds.{Bounds}
 use Rattle.sam_sizing.specs.Makers.{AreAtStart, kinds_over, MakesFor}
-use Rattle.sam_sizing.specs.Least.{StallsAt, StallsUpTo, IsLeast}
+use Rattle.sam_sizing.specs.Least.{StallsUpTo, IsLeast}
 use Rattle.sam_sizing.specs.Trials.{EndsAs, LiesWithin}
 use Rattle.sam_sizing.proofs.Tried.{next-least}
 
@@ -97,20 +97,19 @@ both_wait = record { block = 0; channel = 0; full = true } ∷ record { block = 
 abbrev stalled_at_two : State
 stalled_at_two = play late (all_channels 2) start (0 ∷ 0 ∷ 0 ∷ 1 ∷ [])
 
-two_stalls : StallsAt late 2 both_wait
+two_stalls : StallsAt late (all_channels 2) both_wait
 two_stalls = record {
   end = stalled_at_two;
-  reached = (0 ∷ 0 ∷ 0 ∷ 1 ∷ [], refl);
-  stuck = at_both _ refl refl;
+  ends = record { reached = (0 ∷ 0 ∷ 0 ∷ 1 ∷ [], refl); stuck = at_both _ refl refl };
   unfinished = λ h. let e : 2 ≡ 4 = h 0 (omega arith) in omega (arith, e);
   waiting = refl;
 }
 
 -- it has no list but this
-no_other_list : StallsAt late 2 [] → ⊥
+no_other_list : StallsAt late (all_channels 2) [] → ⊥
 no_other_list h =
     let same : h.end ≡ two_stalls.end =
-    one-end late (all_channels 2) h.end two_stalls.end late_wired h.reached h.stuck two_stalls.reached two_stalls.stuck in
+    one-end late (all_channels 2) h.end two_stalls.end late_wired h.ends.reached h.ends.stuck two_stalls.ends.reached two_stalls.ends.stuck in
     let list : [] ≡ both_wait = h.waiting ∙ ap (waiting_list late) same ∙ sym two_stalls.waiting in
     absurd (cc)
 
@@ -139,14 +138,14 @@ four_merely_suffices list h = h.no_smaller 3 (omega arith) (omega arith) three_e
 
 -- one that is tried and stalls isn't either
 two_too_small : (list : List Waiting) → IsLeast late 4 (Found 2 list) → ⊥
-two_too_small list h = two_stalls.unfinished (h.suffices two_stalls.end two_stalls.reached two_stalls.stuck)
+two_too_small list h = two_stalls.unfinished (h.suffices two_stalls.end two_stalls.ends.reached two_stalls.ends.stuck)
 
 -- with two as the largest that may be tried there is none
 above_two : IsLeast late 2 (Above both_wait)
 above_two = two_stalls
 
 not_above_three : (list : List Waiting) → IsLeast late 3 (Above list) → ⊥
-not_above_three list h = h.unfinished (three_enough h.end h.reached h.stuck)
+not_above_three list h = h.unfinished (three_enough h.end h.ends.reached h.ends.stuck)
 
 -- below a capacity of 1 nothing waits
 none_below_one : StallsUpTo late 0 []

@@ -1,23 +1,15 @@
 -- The least capacity that suffices, and what waits with one less.
 use Rattle.std.specs.Prelude.{◌≡◌, ◌<◌, ◌≤◌, ◌-◌, ℕ, zero, suc, List, []}
 use Rattle.sam_base.specs.declared.faults.Waiting.{Waiting}
-use Rattle.plays.specs.Net.{Net, State, Reached, Stuck, Finished, Suffices, all_channels}
-use Rattle.stepper.specs.Endings.{waiting_list}
+use Rattle.plays.specs.Net.{Net, Suffices, all_channels}
+use Rattle.stepper.specs.Endings.{StallsAt}
 use Rattle.sam_sizing.specs.declared.least.Least.{Least}
 use Rattle.sam_sizing.specs.declared.least.Least.TheVariants.{Found, Above}
 
--- plays with this capacity on every channel end unfinished, and then these blocks wait
-pub record StallsAt (net : Net) (capacity : ℕ) (list : List Waiting) : Type 0 where
-  pub end : State
-  pub reached : Reached net (all_channels capacity) end
-  pub stuck : Stuck net (all_channels capacity) end
-  pub unfinished : ¬ Finished net end
-  pub waiting : list ≡ waiting_list net end
-
--- the same, where 0 stands for no capacity and no block
+-- plays with this capacity on every channel end with these blocks waiting, where 0 stands for no capacity and no block
 abbrev pub StallsUpTo : Net → ℕ → List Waiting → Type 0
 StallsUpTo net zero list = list ≡ []
-StallsUpTo net (suc n) list = StallsAt net (suc n) list
+StallsUpTo net (suc n) list = StallsAt net (all_channels (suc n)) list
 
 -- This capacity suffices and no smaller one does; the list is that of the blocks that wait with one less.
 pub record IsLeastWith (net : Net) (top capacity : ℕ) (list : List Waiting) : Type 0 where
@@ -31,4 +23,4 @@ pub record IsLeastWith (net : Net) (top capacity : ℕ) (list : List Waiting) : 
 -- the least capacity where the top one suffices, and else what waits with the top one
 abbrev pub IsLeast : Net → ℕ → Least → Type 0
 IsLeast net top (Found capacity below) = IsLeastWith net top capacity below
-IsLeast net top (Above list) = StallsAt net top list
+IsLeast net top (Above list) = StallsAt net (all_channels top) list

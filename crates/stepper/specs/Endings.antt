@@ -6,7 +6,7 @@ use Rattle.sam_model.specs.Children.{Ranked}
 use Rattle.block_core.specs.declared.BlockStep.{Ghosts}
 use Rattle.graph.specs.declared.graphs.Graph.{Graph}
 use Rattle.graph.specs.Standing.{StandAt, final_position}
-use Rattle.plays.specs.Net.{Net, State, Finished}
+use Rattle.plays.specs.Net.{Net, Rooms, State, Reached, Stuck, Finished}
 use Rattle.plays.specs.Held.{Held}
 use Rattle.stepper.specs.AtState.{AtState, Wherever}
 
@@ -23,6 +23,18 @@ waiting_below net s (suc n) = waiting_below net s n ++ waiting_for net n (slice_
 
 abbrev pub waiting_list : Net → State → List Waiting
 waiting_list net s = waiting_below net s net.blocks
+
+-- a state in which plays under these limits end: one reaches it, and no block can move there
+pub record EndsAt (net : Net) (rooms : Rooms) (end : State) : Type 0 where
+  pub reached : Reached net rooms end
+  pub stuck : Stuck net rooms end
+
+-- they end unfinished, and these are the blocks that wait there
+pub record StallsAt (net : Net) (rooms : Rooms) (list : List Waiting) : Type 0 where
+  pub end : State
+  pub ends : EndsAt net rooms end
+  pub unfinished : ¬ Finished net end
+  pub waiting : list ≡ waiting_list net end
 
 -- the blocks that aren't finished are these, and there is one
 abbrev pub StallsWith : {B : Type 0} → Ghosts B → List Waiting → Held B → Type 0
