@@ -15,7 +15,7 @@ use Rattle.sam_model.specs.Expressions.{joined_term, expanded, summed_over, with
 use Rattle.sam_model.proofs.Lists.{or-false}
 use Rattle.sam_model.proofs.Orders.{is_in-filter}
 use Rattle.expand.specs.Plain.{is_product, factors_of, term_of}
-use Rattle.expand.specs.Scopes.{bound_vars, used_vars, implied_of}
+use Rattle.sam_model.specs.Scopes.{bound_vars, used_vars, implied_of}
 use Rattle.expand.specs.Counting.{top_terms}
 use Rattle.expand.proofs.Counted.{factors_have}
 use Rattle.expand.proofs.Expanded.{have-append, is_in-append}

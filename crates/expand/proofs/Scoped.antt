@@ -9,7 +9,7 @@ use Rattle.sam_model.specs.Lists.{is_in, same_list}
 use Rattle.sam_model.specs.Accepted.{distinct}
 use Rattle.sam_model.proofs.Lists.{and-true, or-false}
 use Rattle.sam_model.proofs.Orders.{is_in-filter, is_below, list_all-member, same_list-true, Rises, not-above}
-use Rattle.expand.specs.Scopes.{bound_vars, used_vars, free_vars, are_apart, are_in_range, implied_of, top_fits}
+use Rattle.sam_model.specs.Scopes.{bound_vars, used_vars, free_vars, are_apart, are_in_range, implied_of, top_fits}
 use Rattle.expand.proofs.Expanded.{Apart, IsScoped, is_in-append}
 
 -- ---- distinct lists

@@ -1,10 +1,9 @@
--- The definitions evaluated: which top-level terms fit a left side, and how many terms they have.
+-- The definitions evaluated: how many terms top-level terms have, and which of them are products.
 use Rattle.std.specs.Prelude.{◌≡◌, ℕ, true, false, List, [], ◌∷◌, Box, refl}
 use Rattle.std.specs.declared.alloc.Global.{Global}
 use Rattle.sam_model.specs.declared.expressions.Expr.{Expr}
 use Rattle.sam_model.specs.declared.expressions.Expr.TheVariants.{Access, Times', Plus', Sum'}
 use Rattle.sam_model.specs.declared.expressions.Top.{Top}
-use Rattle.expand.specs.Scopes.{bound_vars, used_vars, free_vars, implied_of, top_fits}
 use Rattle.expand.specs.Counting.{term_count, have_long, top_terms}
 use Rattle.expand.specs.Plain.{is_product}
 
@@ -25,47 +24,6 @@ module _ (p : Box (Unit {0}) Global) where
 
   abbrev top : Expr → List ℕ → Top
   top body implied = record { minus = false; body = body; implied = implied }
-
-  variables-used : used_vars (over_j both) ≡ 0 ∷ 1 ∷ 0 ∷ []
-  variables-used = refl
-
-  variables-free : free_vars (over_j both) ≡ 0 ∷ 0 ∷ []
-  variables-free = refl
-
-  variables-bound : bound_vars (over_j (Sum' 2 p both)) ≡ 2 ∷ 1 ∷ []
-  variables-bound = refl
-
-  implied-j : implied_of 3 (0 ∷ []) both ≡ 1 ∷ []
-  implied-j = refl
-
-  implied-none : implied_of 3 (0 ∷ []) (over_j both) ≡ []
-  implied-none = refl
-
-  implied-fits : top_fits 3 (0 ∷ []) (top both (1 ∷ [])) ≡ true
-  implied-fits = refl
-
-  summed-fits : top_fits 3 (0 ∷ []) (top (over_j both) []) ≡ true
-  summed-fits = refl
-
-  -- an implied variable that isn't listed
-  forgotten : top_fits 3 (0 ∷ []) (top both []) ≡ false
-  forgotten = refl
-
-  -- two sums over one variable
-  twice : top_fits 3 (0 ∷ []) (top (Times' p (over_j B_of_ij) p (over_j B_of_ij)) []) ≡ false
-  twice = refl
-
-  -- a variable beside its sum
-  beside : top_fits 3 (0 ∷ []) (top (Plus' p (over_j B_of_ij) p B_of_ij) []) ≡ false
-  beside = refl
-
-  -- a sum over a variable of the left
-  on_left : top_fits 3 (0 ∷ []) (top (Sum' 0 p both) (1 ∷ [])) ≡ false
-  on_left = refl
-
-  -- a variable out of range
-  outside : top_fits 1 (0 ∷ []) (top both (1 ∷ [])) ≡ false
-  outside = refl
 
   counted-product : term_count (Times' p both p both) ≡ 4
   counted-product = refl

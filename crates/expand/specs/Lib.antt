@@ -1,4 +1,3 @@
-pub mod Scopes
 pub mod Counting
 pub mod Meaning
 pub mod Plain

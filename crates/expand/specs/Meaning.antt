@@ -9,7 +9,7 @@ use Rattle.sam_model.specs.Lists.{items_at}
 use Rattle.sam_model.specs.Accepted.{is_order, ascending, term_has}
 use Rattle.sam_model.specs.Denote.{den, pat}
 use Rattle.sam_model.specs.Expressions.{denoted, found}
-use Rattle.expand.specs.Scopes.{are_in_range, top_fits}
+use Rattle.sam_model.specs.Scopes.{are_in_range, top_fits}
 
 -- A program's left side and these top-level terms fit together: every size is at least 1, the variables of the left stand in
 -- loop order in storage order, each top-level term fits the left, and each term of the program has every variable of it.

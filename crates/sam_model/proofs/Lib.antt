@@ -3,6 +3,7 @@ mod Rows
 mod Worked
 mod WorkedExpressions
 mod WorkedListing
+mod WorkedScopes
 pub mod AcceptedLemmas
 pub mod Lists
 pub mod Moduli

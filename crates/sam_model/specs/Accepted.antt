@@ -1,4 +1,4 @@
--- Which programs are accepted.
+-- Which programs fit together by their terms.
 use Rattle.std.specs.Prelude.{ℕ, zero, suc, Bool, true, false, not, ◌&&◌, ◌||◌, ◌==◌, List, [], ◌∷◌, length, slice_index, nat_le, nat_lt, count_by}
 use Rattle.std.specs.List.{list_all, list_any}
 use Rattle.std.specs.Str.{bytes_eq}
@@ -129,5 +129,6 @@ abbrev pub declarations_fit : List Tensor → Tensor → Bool
 declarations_fit tensors result =
     list_all is_operand tensors && (is_result result && (distinct_tensors tensors && not (is_taken result.name tensors)))
 
-abbrev pub accepted : Program → Bool
-accepted p = declarations_fit p.tensors p.result && statement_fits p
+-- the tensors, the left side and the terms fit together
+abbrev pub fits_by_terms : Program → Bool
+fits_by_terms p = declarations_fit p.tensors p.result && statement_fits p

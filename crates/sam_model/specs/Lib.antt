@@ -6,3 +6,5 @@ pub mod Listing
 pub mod Children
 pub mod Accepted
 pub mod Expressions
+pub mod Scopes
+pub mod Program

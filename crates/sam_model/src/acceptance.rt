@@ -1,4 +1,4 @@
-//! Which programs are accepted.
+//! Which programs fit together by their terms.
 
 ghost use Rattle.std.specs.Prelude.{◌≡◌, nat_lt, count_by, slice_index};
 ghost use Rattle.std.specs.List.{list_all, list_any};
@@ -7,20 +7,21 @@ ghost use Rattle.sam_model.specs.Denote.{has_var};
 ghost use Rattle.sam_model.specs.Accepted.{distinct, is_named, distinct_names, is_taken, distinct_tensors, ascending_from, ascending};
 ghost use Rattle.sam_model.specs.Accepted.{is_dimension, is_order, is_compressed, is_well_formed, is_operand, is_result, declarations_fit};
 ghost use Rattle.sam_model.specs.Accepted.{variables_fit, access_fits, tensor_passes, factor_fits, is_access, term_has, terms_have, stands};
-ghost use Rattle.sam_model.specs.Accepted.{reduces, factor_reduces, term_fits, statement_fits, accepted};
+ghost use Rattle.sam_model.specs.Accepted.{reduces, factor_reduces, term_fits, statement_fits, fits_by_terms};
 
 use crate::program::{Factor, Program, Term};
 use crate::tensors::{Format, Tensor};
 use sam_base::{DIMENSION_MOST, FACTORS_MOST, Name, TERMS_MOST, VARIABLES_MOST};
 
-fn is_in(v: u64, vars: &[u64]) -> bool
+/// Whether a number is one of these.
+pub fn is_in(v: u64, vars: &[u64]) -> bool
     ensures { result ≡ is_in v vars.now }
 {
     vars.iter().any(|w| v == *w)
 }
 
 /// Whether no number stands twice.
-fn distinct(numbers: &[u64]) -> bool
+pub fn distinct(numbers: &[u64]) -> bool
     ensures { result ≡ distinct numbers.now }
 {
     match numbers {
@@ -46,7 +47,8 @@ pub fn distinct_names(names: &[Name]) -> bool
     }
 }
 
-fn item_at(numbers: &[u64], place: u64) -> u64
+/// The number at a place, or 0.
+pub fn item_at(numbers: &[u64], place: u64) -> u64
     ensures { result ≡ slice_index numbers.now place }
 {
     numbers.get(place as usize).copied().unwrap_or(0)
@@ -80,7 +82,8 @@ pub fn is_dimension(d: u64) -> bool
     1 <= d && d <= DIMENSION_MOST
 }
 
-fn are_below(numbers: &[u64], count: u64) -> bool
+/// Whether each number is below a count.
+pub fn are_below(numbers: &[u64], count: u64) -> bool
     ensures { result ≡ list_all (λ m. nat_lt m count) numbers.now }
 {
     numbers.iter().all(|m| *m < count)
@@ -219,7 +222,8 @@ fn has_var(v: u64, factor: &Factor) -> bool
     }
 }
 
-fn term_has(term: &Term, v: u64) -> bool
+/// Whether an access of a term has a variable.
+pub fn term_has(term: &Term, v: u64) -> bool
     ensures { result ≡ term_has term.now v }
 {
     term.factors
@@ -359,10 +363,10 @@ fn declarations_fit(p: &Program) -> bool
         && !is_taken(p.result.name.as_bytes(), tensors)
 }
 
-/// Whether a program is accepted: its tensors and its result are well formed and have different names, and its statement
-/// fits them.
-pub fn accepted(p: &Program) -> bool
-    ensures { result ≡ accepted p.now }
+/// Whether a program fits together by its terms: its tensors and its result are well formed and have different names, and its
+/// left side and its terms fit them.
+pub fn fits_by_terms(p: &Program) -> bool
+    ensures { result ≡ fits_by_terms p.now }
 {
     declarations_fit(p) && statement_fits(p)
 }

@@ -7,8 +7,8 @@ mod program;
 mod tensors;
 
 pub use acceptance::{
-    accepted, are_compressed, are_dimensions, ascending, distinct_names, is_named, is_order,
-    is_taken, statement_fits,
+    are_below, are_compressed, are_dimensions, ascending, distinct, distinct_names, fits_by_terms,
+    is_in, is_named, is_order, is_taken, item_at, statement_fits, term_has,
 };
 pub use expressions::{Expr, Top};
 pub use program::{Factor, Program, Term};

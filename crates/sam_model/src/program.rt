@@ -1,5 +1,6 @@
 //! Programs: a tensor statement with the tensors that it speaks of, in loop order.
 
+use crate::expressions::Top;
 use crate::tensors::Tensor;
 use sam_base::{Items, Name, Nums};
 
@@ -17,14 +18,16 @@ pub struct Term {
     pub factors: Items<Factor>,
 }
 
-/// A statement: the result at the variables of the left side is the sum of the terms, each summed over its variables
-/// that aren't on the left. Variable k is the k-th of the loop order, from 0.
+/// A statement with the tensors that it speaks of: the result at the variables of the left side is the sum of the top-level
+/// terms. `terms` are the products that these expand to: their sum, each summed over its variables that aren't on the left, is
+/// the same. Variable k is the k-th of the loop order, from 0.
 #[derive(Debug, Drop)]
 pub struct Program {
     pub tensors: Items<Tensor>,
     pub result: Tensor,
     pub left: Nums,
     pub terms: Items<Term>,
+    pub tops: Items<Top>,
     pub var_names: Items<Name>,
     pub var_sizes: Nums,
 }
