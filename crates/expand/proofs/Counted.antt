@@ -8,9 +8,7 @@ use Rattle.std.proofs.lemmas.List.{map-append}
 use Rattle.sam_model.specs.declared.program.Factor.{Factor}
 use Rattle.sam_model.specs.declared.program.Factor.TheVariants as factor
 use Rattle.sam_model.specs.declared.program.Term.{Term}
-use Rattle.sam_model.specs.declared.expressions.Expr.{Expr}
-use Rattle.sam_model.specs.declared.expressions.Expr.TheVariants.{Access, Literal, Times', Plus', Minus', Negate', Sum'}
-use Rattle.sam_model.specs.declared.expressions.Top.{Top}
+use Rattle.sam_model.specs.Trees.{ExprTree, Access, Literal, Times, Plus, Minus, Negate, Sum, TopTree}
 use Rattle.sam_model.specs.Denote.{has_var}
 use Rattle.sam_model.specs.Expressions.{turned_term, joined_term, summed_term, expanded, summed_over, with_sign, expanded_tops}
 
@@ -32,14 +30,14 @@ module _ (sizes : List ℕ) where
   abbrev pub counted_summed : ℕ → Counted → Counted
   counted_summed k t = cond (factors_have t.factors k) t (record t { factors = t.factors ++ factor.Literal (slice_index sizes k) ∷ [] })
 
-  abbrev pub counted : Expr → List Counted
+  abbrev pub counted : ExprTree → List Counted
   counted (Access n vars) = record { minuses = 0; factors = factor.Access n vars ∷ [] } ∷ []
   counted (Literal n) = record { minuses = 0; factors = factor.Literal n ∷ [] } ∷ []
-  counted (Times' p a q b) = flat_map (λ t. map (counted_joined t) (counted b)) (counted a)
-  counted (Plus' p a q b) = counted a ++ counted b
-  counted (Minus' p a q b) = counted a ++ map counted_turned (counted b)
-  counted (Negate' p a) = map counted_turned (counted a)
-  counted (Sum' k p a) = map (counted_summed k) (counted a)
+  counted (Times a b) = flat_map (λ t. map (counted_joined t) (counted b)) (counted a)
+  counted (Plus a b) = counted a ++ counted b
+  counted (Minus a b) = counted a ++ map counted_turned (counted b)
+  counted (Negate a) = map counted_turned (counted a)
+  counted (Sum k a) = map (counted_summed k) (counted a)
 
   abbrev pub counted_over : List ℕ → List Counted → List Counted
   counted_over [] ts = ts
@@ -48,7 +46,7 @@ module _ (sizes : List ℕ) where
   abbrev pub counted_sign : Bool → List Counted → List Counted
   counted_sign minus ts = cond minus (map counted_turned ts) ts
 
-  abbrev pub counted_top : Top → List Counted
+  abbrev pub counted_top : TopTree → List Counted
   counted_top t = counted_sign t.minus (counted_over t.implied (counted t.body))
 
 -- ---- signs by parity
@@ -110,19 +108,19 @@ module _ (sizes : List ℕ) where
   summed_all : (k : ℕ) (ts : List Counted) → map as_term (map (counted_summed sizes k) ts) ≡ map (summed_term sizes k) (map as_term ts)
   summed_all k ts = map_through (counted_summed sizes k) as_term as_term (summed_term sizes k) (summed_as k) ts
 
-  pub as-expanded : (e : Expr) → map as_term (counted sizes e) ≡ expanded sizes e
+  pub as-expanded : (e : ExprTree) → map as_term (counted sizes e) ≡ expanded sizes e
   as-expanded (Access n vars) = refl
   as-expanded (Literal n) = refl
-  as-expanded (Times' p a q b) =
+  as-expanded (Times a b) =
       products_as (counted sizes a) (counted sizes b)
       ∙ ap₂ (λ (ts us : List Term). flat_map (λ t. map (joined_term t) us) ts) (as-expanded a) (as-expanded b)
-  as-expanded (Plus' p a q b) =
+  as-expanded (Plus a b) =
       map-append as_term (counted sizes a) (counted sizes b) ∙ ap₂ (λ (xs ys : List Term). xs ++ ys) (as-expanded a) (as-expanded b)
-  as-expanded (Minus' p a q b) =
+  as-expanded (Minus a b) =
       map-append as_term (counted sizes a) (map counted_turned (counted sizes b))
       ∙ ap₂ (λ (xs ys : List Term). xs ++ ys) (as-expanded a) (turned_all (counted sizes b) ∙ ap (map turned_term) (as-expanded b))
-  as-expanded (Negate' p a) = turned_all (counted sizes a) ∙ ap (map turned_term) (as-expanded a)
-  as-expanded (Sum' k p a) = summed_all k (counted sizes a) ∙ ap (map (summed_term sizes k)) (as-expanded a)
+  as-expanded (Negate a) = turned_all (counted sizes a) ∙ ap (map turned_term) (as-expanded a)
+  as-expanded (Sum k a) = summed_all k (counted sizes a) ∙ ap (map (summed_term sizes k)) (as-expanded a)
 
   over_as : (ks : List ℕ) (ts : List Counted) → map as_term (counted_over sizes ks ts) ≡ summed_over sizes ks (map as_term ts)
   over_as [] ts = refl
@@ -132,12 +130,12 @@ module _ (sizes : List ℕ) where
   sign_as true ts = turned_all ts
   sign_as false ts = refl
 
-  top_as : (t : Top) → map as_term (counted_top sizes t) ≡ with_sign sizes t.minus (summed_over sizes t.implied (expanded sizes t.body))
+  top_as : (t : TopTree) → map as_term (counted_top sizes t) ≡ with_sign sizes t.minus (summed_over sizes t.implied (expanded sizes t.body))
   top_as t =
       sign_as t.minus (counted_over sizes t.implied (counted sizes t.body))
       ∙ ap (with_sign sizes t.minus) (over_as t.implied (counted sizes t.body) ∙ ap (summed_over sizes t.implied) (as-expanded t.body))
 
-  pub as-expanded_tops : (tops : List Top) → map as_term (flat_map (counted_top sizes) tops) ≡ expanded_tops sizes tops
+  pub as-expanded_tops : (tops : List TopTree) → map as_term (flat_map (counted_top sizes) tops) ≡ expanded_tops sizes tops
   as-expanded_tops [] = refl
   as-expanded_tops (t ∷ tops) =
       map-append as_term (counted_top sizes t) (flat_map (counted_top sizes) tops)

@@ -10,9 +10,7 @@ use Rattle.std.proofs.lemmas.List.Folds.{list_any-append}
 use Rattle.sam_base.specs.Each.{Each}
 use Rattle.sam_model.specs.declared.program.Factor.{Factor}
 use Rattle.sam_model.specs.declared.program.Factor.TheVariants as factor
-use Rattle.sam_model.specs.declared.expressions.Expr.{Expr}
-use Rattle.sam_model.specs.declared.expressions.Expr.TheVariants.{Access, Literal, Times', Plus', Minus', Negate', Sum'}
-use Rattle.sam_model.specs.declared.expressions.Top.{Top}
+use Rattle.sam_model.specs.Trees.{ExprTree, Access, Literal, Times, Plus, Minus, Negate, Sum, TopTree}
 use Rattle.sam_model.specs.Lists.{is_in}
 use Rattle.sam_model.specs.Denote.{has_var}
 use Rattle.sam_model.specs.Expressions.{Tuple, with_at, Values, sum_for, sum_over, negative_if, expr_value}
@@ -32,17 +30,17 @@ Apart ks vs = (k : ℕ) → is_in k ks ≡ true → is_in k vs ≡ false
 
 -- at each product, sum and difference the sums of a side are over no variable that the other uses, and each sum is over one of
 -- so many variables
-abbrev pub IsScoped : ℕ → Expr → Type 0
+abbrev pub IsScoped : ℕ → ExprTree → Type 0
 IsScoped count (Access n vars) = Unit {0}
 IsScoped count (Literal n) = Unit {0}
-IsScoped count (Times' p a q b) =
+IsScoped count (Times a b) =
     IsScoped count a × IsScoped count b × Apart (bound_vars a) (used_vars b) × Apart (bound_vars b) (used_vars a)
-IsScoped count (Plus' p a q b) =
+IsScoped count (Plus a b) =
     IsScoped count a × IsScoped count b × Apart (bound_vars a) (used_vars b) × Apart (bound_vars b) (used_vars a)
-IsScoped count (Minus' p a q b) =
+IsScoped count (Minus a b) =
     IsScoped count a × IsScoped count b × Apart (bound_vars a) (used_vars b) × Apart (bound_vars b) (used_vars a)
-IsScoped count (Negate' p a) = IsScoped count a
-IsScoped count (Sum' k p a) = IsScoped count a × (k < count)
+IsScoped count (Negate a) = IsScoped count a
+IsScoped count (Sum k a) = IsScoped count a × (k < count)
 
 -- ---- which variables terms have
 
@@ -109,27 +107,27 @@ within_summed : (sizes : List ℕ) (k : ℕ) (vs : List ℕ) (ts : List Counted)
 within_summed sizes k vs ts a =
     Each-map (Within vs) (counted_summed sizes k) (Within vs) (λ t h j e. h j (sym (have_summed sizes k j t) ∙ e)) ts a
 
-within_counted : (sizes : List ℕ) (e : Expr) → Each (Within (used_vars e)) (counted sizes e)
+within_counted : (sizes : List ℕ) (e : ExprTree) → Each (Within (used_vars e)) (counted sizes e)
 within_counted sizes (Access n vars) = (λ k h. sym (or-false (is_in k vars)) ∙ h, tt)
 within_counted sizes (Literal n) = (λ k h. h, tt)
-within_counted sizes (Times' p a q b) =
+within_counted sizes (Times a b) =
     within_products (used_vars a) (used_vars b) (counted sizes a) (counted sizes b) (within_counted sizes a) (within_counted sizes b)
-within_counted sizes (Plus' p a q b) =
+within_counted sizes (Plus a b) =
     Each-append (Within (used_vars a ++ used_vars b)) (counted sizes a) (counted sizes b)
     (within_left (used_vars a) (used_vars b) (counted sizes a) (within_counted sizes a))
     (within_right (used_vars a) (used_vars b) (counted sizes b) (within_counted sizes b))
-within_counted sizes (Minus' p a q b) =
+within_counted sizes (Minus a b) =
     Each-append (Within (used_vars a ++ used_vars b)) (counted sizes a) (map counted_turned (counted sizes b))
     (within_left (used_vars a) (used_vars b) (counted sizes a) (within_counted sizes a))
     (within_turned (used_vars a ++ used_vars b) (counted sizes b) (within_right (used_vars a) (used_vars b) (counted sizes b) (within_counted sizes b)))
-within_counted sizes (Negate' p a) = within_turned (used_vars a) (counted sizes a) (within_counted sizes a)
-within_counted sizes (Sum' k p a) = within_summed sizes k (used_vars a) (counted sizes a) (within_counted sizes a)
+within_counted sizes (Negate a) = within_turned (used_vars a) (counted sizes a) (within_counted sizes a)
+within_counted sizes (Sum k a) = within_summed sizes k (used_vars a) (counted sizes a) (within_counted sizes a)
 
 within_over : (sizes : List ℕ) (vs ks : List ℕ) (ts : List Counted) → Each (Within vs) ts → Each (Within vs) (counted_over sizes ks ts)
 within_over sizes vs [] ts a = a
 within_over sizes vs (k ∷ ks) ts a = within_over sizes vs ks (map (counted_summed sizes k) ts) (within_summed sizes k vs ts a)
 
-pub within-top : (sizes : List ℕ) (t : Top) → Each (Within (used_vars t.body)) (counted_top sizes t)
+pub within-top : (sizes : List ℕ) (t : TopTree) → Each (Within (used_vars t.body)) (counted_top sizes t)
 within-top sizes t = by_case t.minus
   where
     terms : List Counted
@@ -335,29 +333,29 @@ module _ {R : Type 0} (o : Values R) (sizes : List ℕ) (access : ℕ → List �
     -- ---- the law
 
     -- an expression has the value of its terms
-    pub keeps-values : (e : Expr) → IsScoped (length sizes) e → (s : Tuple)
+    pub keeps-values : (e : ExprTree) → IsScoped (length sizes) e → (s : Tuple)
         → expr_value o sizes access e s ≡ counted_values (bound_vars e) (counted sizes e) s
     keeps-values (Access n vars) scoped s = sym (laws.none_add (o.mul (access n (map s vars)) o.one) ∙ mul-one o sizes laws (access n (map s vars)))
     keeps-values (Literal n) scoped s = sym (laws.none_add (o.mul (o.literal n) o.one) ∙ mul-one o sizes laws (o.literal n))
-    keeps-values (Times' p a q b) scoped s =
+    keeps-values (Times a b) scoped s =
         ap₂ o.mul (keeps-values a scoped.0 s) (keeps-values b scoped.1 s)
         ∙ sym (products_value (bound_vars a) (bound_vars b) (used_vars a) (used_vars b) scoped.2 scoped.3 (counted sizes a) (counted sizes b)
         (within_counted sizes a) (within_counted sizes b) s)
-    keeps-values (Plus' p a q b) scoped s =
+    keeps-values (Plus a b) scoped s =
         ap₂ o.add
         (keeps-values a scoped.0 s ∙ sym (values_left (bound_vars a) (bound_vars b) (used_vars a) scoped.3 (counted sizes a) (within_counted sizes a) s))
         (keeps-values b scoped.1 s ∙ sym (values_right (bound_vars a) (bound_vars b) (used_vars b) scoped.2 (counted sizes b) (within_counted sizes b) s))
         ∙ sym (values-append (bound_vars a ++ bound_vars b) (counted sizes a) (counted sizes b) s)
-    keeps-values (Minus' p a q b) scoped s =
+    keeps-values (Minus a b) scoped s =
         ap₂ (λ x y. o.add x (o.mul o.minus y))
         (keeps-values a scoped.0 s ∙ sym (values_left (bound_vars a) (bound_vars b) (used_vars a) scoped.3 (counted sizes a) (within_counted sizes a) s))
         (keeps-values b scoped.1 s ∙ sym (values_right (bound_vars a) (bound_vars b) (used_vars b) scoped.2 (counted sizes b) (within_counted sizes b) s))
         ∙ ap (o.add (counted_values (bound_vars a ++ bound_vars b) (counted sizes a) s))
         (sym (values_turned (bound_vars a ++ bound_vars b) (counted sizes b) s))
         ∙ sym (values-append (bound_vars a ++ bound_vars b) (counted sizes a) (map counted_turned (counted sizes b)) s)
-    keeps-values (Negate' p a) scoped s =
+    keeps-values (Negate a) scoped s =
         ap (o.mul o.minus) (keeps-values a scoped s) ∙ sym (values_turned (bound_vars a) (counted sizes a) s)
-    keeps-values (Sum' k p a) scoped s =
+    keeps-values (Sum k a) scoped s =
         for-same o sizes k (expr_value o sizes access a) (counted_values (bound_vars a) (counted sizes a)) (keeps-values a scoped.0) s
         ∙ sym (values_summed k (bound_vars a) scoped.1 (counted sizes a) s)
 

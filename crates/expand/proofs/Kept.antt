@@ -11,7 +11,7 @@ use Rattle.sam_model.specs.declared.program.Factor.{Factor}
 use Rattle.sam_model.specs.declared.program.Factor.TheVariants.{Access, Literal}
 use Rattle.sam_model.specs.declared.program.Term.{Term}
 use Rattle.sam_model.specs.declared.program.Program.{Program}
-use Rattle.sam_model.specs.declared.expressions.Top.{Top}
+use Rattle.sam_model.specs.Trees.{TopTree}
 use Rattle.sam_model.specs.Lists.{total, items_at, is_in, coordinate}
 use Rattle.sam_model.specs.Accepted.{term_has}
 use Rattle.sam_model.specs.Denote.{loops_of, factor_at, stored_at, product, tuples_of, term_at, signed_terms, den, pat}
@@ -149,7 +149,7 @@ gathered_each : {R A : Type 0} (o : Values R) (Q : A → Type 0) (f g : A → R)
 gathered_each o Q f g h [] e = refl
 gathered_each o Q f g h (x ∷ xs) e = ap₂ o.add (h x e.0) (gathered_each o Q f g h xs e.1)
 
-tops_fit : (count : ℕ) (left : List ℕ) (tops : List Top) → list_all (top_fits count left) tops ≡ true → Each (Fits count left) tops
+tops_fit : (count : ℕ) (left : List ℕ) (tops : List TopTree) → list_all (top_fits count left) tops ≡ true → Each (Fits count left) tops
 tops_fit count left [] h = tt
 tops_fit count left (t ∷ tops) h =
     let e = and_parts (top_fits count left t) (list_all (top_fits count left) tops) h in (fits count left t e.0, tops_fit count left tops e.1)
@@ -161,7 +161,7 @@ terms_have left (c ∷ cs) h =
     let e = and_parts (list_all (factors_have c.factors) left) (list_all (λ t. list_all (term_has t) left) (map as_term cs)) h in
     (λ v m. list_all-member (factors_have c.factors) left v e.0 m, terms_have left cs e.1)
 
-in_range : (sizes left : List ℕ) (tops : List Top) → Each (Fits (length sizes) left) tops
+in_range : (sizes left : List ℕ) (tops : List TopTree) → Each (Fits (length sizes) left) tops
     → Each (λ c. (v : ℕ) → factors_have c.factors v ≡ true → v < length sizes) (flat_map (counted_top sizes) tops)
 in_range sizes left tops e =
     Each-flat_map (Fits (length sizes) left) (λ c. (v : ℕ) → factors_have c.factors v ≡ true → v < length sizes) (counted_top sizes)
@@ -169,7 +169,7 @@ in_range sizes left tops e =
     (counted_top sizes t) (within-top sizes t))
     tops e
 
-module _ (p : Program) (es : List Entries) (tops : List Top) (x : List ℕ) (fit : FitTogether p tops) (long : length x ≡ length p.left)
+module _ (p : Program) (es : List Entries) (tops : List TopTree) (x : List ℕ) (fit : FitTogether p tops) (long : length x ≡ length p.left)
     (expands : p.terms ≡ expanded_tops p.var_sizes tops) where
   abbrev terms : List Counted
   terms = flat_map (counted_top p.var_sizes) tops
@@ -223,7 +223,7 @@ module _ (p : Program) (es : List Entries) (tops : List Top) (x : List ℕ) (fit
       laws = presence-lawful p.var_sizes fit.sizes
 
 -- the law of expansion
-pub keeps-meaning : (sizes : List ℕ) (tops : List Top) → KeepsMeaning sizes tops (expanded_tops sizes tops)
+pub keeps-meaning : (sizes : List ℕ) (tops : List TopTree) → KeepsMeaning sizes tops (expanded_tops sizes tops)
 keeps-meaning sizes tops p es x same_sizes same_terms fit long =
     let expands : p.terms ≡ expanded_tops p.var_sizes tops = same_terms ∙ ap (λ (ks : List ℕ). expanded_tops ks tops) (sym same_sizes) in (
       keeps_number p es tops x fit long expands ∙ ap (λ (ks : List ℕ). denoted p.tensors es ks (items_at p.left p.result.order) tops x) same_sizes,

@@ -9,9 +9,7 @@ use Rattle.std.proofs.lemmas.List.Folds.{list_any-append}
 use Rattle.sam_model.specs.declared.program.Factor.{Factor}
 use Rattle.sam_model.specs.declared.program.Factor.TheVariants as factor
 use Rattle.sam_model.specs.declared.program.Term.{Term}
-use Rattle.sam_model.specs.declared.expressions.Expr.{Expr}
-use Rattle.sam_model.specs.declared.expressions.Expr.TheVariants.{Access, Literal, Times', Plus', Minus', Negate', Sum'}
-use Rattle.sam_model.specs.declared.expressions.Top.{Top}
+use Rattle.sam_model.specs.Trees.{ExprTree, Access, Literal, Times, Plus, Minus, Negate, Sum, TopTree}
 use Rattle.sam_model.specs.Accepted.{term_has}
 use Rattle.sam_model.specs.Expressions.{turned_term, joined_term, summed_term, expanded, summed_over, with_sign, expanded_tops}
 use Rattle.expand.specs.declared.faults.ExpandFault.{ExpandFault}
@@ -32,18 +30,18 @@ length_products (t ∷ ts) us =
     grown : (m n : ℕ) → n + m * n ≡ suc m * n
     grown m n = let e = suc-mul m n in omega (arith, e)
 
-pub length-expanded : (sizes : List ℕ) (e : Expr) → length (expanded sizes e) ≡ term_count e
+pub length-expanded : (sizes : List ℕ) (e : ExprTree) → length (expanded sizes e) ≡ term_count e
 length-expanded sizes (Access n vars) = refl
 length-expanded sizes (Literal n) = refl
-length-expanded sizes (Times' p a q b) =
+length-expanded sizes (Times a b) =
     length_products (expanded sizes a) (expanded sizes b) ∙ ap₂ (λ (m n : ℕ). m * n) (length-expanded sizes a) (length-expanded sizes b)
-length-expanded sizes (Plus' p a q b) =
+length-expanded sizes (Plus a b) =
     length-append (expanded sizes a) (expanded sizes b) ∙ ap₂ (λ (m n : ℕ). m + n) (length-expanded sizes a) (length-expanded sizes b)
-length-expanded sizes (Minus' p a q b) =
+length-expanded sizes (Minus a b) =
     length-append (expanded sizes a) (map turned_term (expanded sizes b))
     ∙ ap₂ (λ (m n : ℕ). m + n) (length-expanded sizes a) (length-map (expanded sizes b) turned_term ∙ length-expanded sizes b)
-length-expanded sizes (Negate' p a) = length-map (expanded sizes a) turned_term ∙ length-expanded sizes a
-length-expanded sizes (Sum' k p a) = length-map (expanded sizes a) (summed_term sizes k) ∙ length-expanded sizes a
+length-expanded sizes (Negate a) = length-map (expanded sizes a) turned_term ∙ length-expanded sizes a
+length-expanded sizes (Sum k a) = length-map (expanded sizes a) (summed_term sizes k) ∙ length-expanded sizes a
 
 length_over : (sizes ks : List ℕ) (ts : List Term) → length (summed_over sizes ks ts) ≡ length ts
 length_over sizes [] ts = refl
@@ -53,7 +51,7 @@ length_sign : (sizes : List ℕ) (minus : Bool) (ts : List Term) → length (wit
 length_sign sizes true ts = length-map ts turned_term
 length_sign sizes false ts = refl
 
-pub length-expanded_tops : (sizes : List ℕ) (tops : List Top) → length (expanded_tops sizes tops) ≡ terms_count tops
+pub length-expanded_tops : (sizes : List ℕ) (tops : List TopTree) → length (expanded_tops sizes tops) ≡ terms_count tops
 length-expanded_tops sizes [] = refl
 length-expanded_tops sizes (t ∷ tops) =
     length-append (with_sign sizes t.minus (summed_over sizes t.implied (expanded sizes t.body))) (expanded_tops sizes tops)
@@ -67,19 +65,19 @@ some_product zero n h k = absurd (omega (arith, h))
 some_product (suc m) n h k = let e = suc-mul m n in omega (arith, e, k)
 
 -- an expression has terms
-pub some-expanded : (sizes : List ℕ) (e : Expr) → 0 < length (expanded sizes e)
+pub some-expanded : (sizes : List ℕ) (e : ExprTree) → 0 < length (expanded sizes e)
 some-expanded sizes (Access n vars) = omega arith
 some-expanded sizes (Literal n) = omega arith
-some-expanded sizes (Times' p a q b) =
+some-expanded sizes (Times a b) =
     let e = length_products (expanded sizes a) (expanded sizes b) in
     let f = some_product (length (expanded sizes a)) (length (expanded sizes b)) (some-expanded sizes a) (some-expanded sizes b) in
     omega (arith, e, f)
-some-expanded sizes (Plus' p a q b) =
+some-expanded sizes (Plus a b) =
     let e = length-append (expanded sizes a) (expanded sizes b) in let f = some-expanded sizes a in omega (arith, e, f)
-some-expanded sizes (Minus' p a q b) =
+some-expanded sizes (Minus a b) =
     let e = length-append (expanded sizes a) (map turned_term (expanded sizes b)) in let f = some-expanded sizes a in omega (arith, e, f)
-some-expanded sizes (Negate' p a) = let e = length-map (expanded sizes a) turned_term in let f = some-expanded sizes a in omega (arith, e, f)
-some-expanded sizes (Sum' k p a) =
+some-expanded sizes (Negate a) = let e = length-map (expanded sizes a) turned_term in let f = some-expanded sizes a in omega (arith, e, f)
+some-expanded sizes (Sum k a) =
     let e = length-map (expanded sizes a) (summed_term sizes k) in let f = some-expanded sizes a in omega (arith, e, f)
 
 -- ---- which are too long
@@ -170,10 +168,10 @@ long-first_over sizes (k ∷ ks) ts some h = long-over sizes ks (map (summed_ter
 
 -- ---- counted to one more than there may be
 
-pub many-tops : (sizes : List ℕ) (tops : List Top) (r : ℕ) → r ≡ min (terms_count tops) 17 → 16 < r → 16 < length (expanded_tops sizes tops)
+pub many-tops : (sizes : List ℕ) (tops : List TopTree) (r : ℕ) → r ≡ min (terms_count tops) 17 → 16 < r → 16 < length (expanded_tops sizes tops)
 many-tops sizes tops r e h = let l = length-expanded_tops sizes tops in omega (arith, e, h, l)
 
-pub few-tops : (sizes : List ℕ) (tops : List Top) (r : ℕ) → r ≡ min (terms_count tops) 17 → r ≤ 16 → length (expanded_tops sizes tops) ≤ 16
+pub few-tops : (sizes : List ℕ) (tops : List TopTree) (r : ℕ) → r ≡ min (terms_count tops) 17 → r ≤ 16 → length (expanded_tops sizes tops) ≤ 16
 few-tops sizes tops r e h = let l = length-expanded_tops sizes tops in omega (arith, e, h, l)
 
 pub refused-by : (terms : List Term) (fault : ExpandFault) → length terms ≤ 16 → (fault ≡ Terms → ⊥) → (fault ≡ Factors → have_long terms ≡ true)

@@ -4,7 +4,7 @@ use Rattle.std.specs.List.{filter, flat_map}
 use Rattle.std.proofs.Common.{arith, sym, ◌∙◌, ap, ap₂, subst, inl, inr}
 use Rattle.std.proofs.lemmas.Bool.{and_parts, and_from, or_cases, not-true, eqb-true}
 use Rattle.sam_base.specs.Each.{Each}
-use Rattle.sam_model.specs.declared.expressions.Top.{Top}
+use Rattle.sam_model.specs.Trees.{TopTree}
 use Rattle.sam_model.specs.Lists.{below, is_in}
 use Rattle.sam_model.specs.Accepted.{distinct}
 use Rattle.sam_model.specs.Expressions.{Tuple, Values, negative_if, sum_over, expr_value, tops_value}
@@ -41,7 +41,7 @@ below_less count k h = each_member (λ c. c < count) (below count) k (Each-range
 in_below : (count k : ℕ) → k < count → is_in k (below count) ≡ true
 in_below count k h = is_in-range count 0 k (omega arith) (omega (arith, h))
 
-module _ (count : ℕ) (left : List ℕ) (t : Top) (fit : Fits count left t) where
+module _ (count : ℕ) (left : List ℕ) (t : TopTree) (fit : Fits count left t) where
   -- the variables that its terms are summed over
   abbrev summed_vars : List ℕ
   summed_vars = bound_vars t.body ++ t.implied
@@ -117,7 +117,7 @@ module _ {R : Type 0} (o : Values R) (sizes : List ℕ) (access : ℕ → List �
   abbrev pub own_value : Counted → Tuple → R
   own_value c s = over_value o sizes access (not_left (λ v. is_in v left) (loops (length sizes) c)) c s
 
-  values_own : (t : Top) (fit : Fits (length sizes) left t) (cs : List Counted) → Each (Within (used_vars t.body)) cs → (s : Tuple)
+  values_own : (t : TopTree) (fit : Fits (length sizes) left t) (cs : List Counted) → Each (Within (used_vars t.body)) cs → (s : Tuple)
       → counted_values o sizes access (summed_vars (length sizes) left t fit) cs s ≡ gathered o (λ c. own_value c s) cs
   values_own t fit [] w s = refl
   values_own t fit (c ∷ cs) w s =
@@ -129,7 +129,7 @@ module _ {R : Type 0} (o : Values R) (sizes : List ℕ) (access : ℕ → List �
       (own_loops (length sizes) left t fit c w.0) (factors_value o access c.factors) s))
       (values_own t fit cs w.1 s)
 
-  top_value : (t : Top) → Fits (length sizes) left t → (s : Tuple)
+  top_value : (t : TopTree) → Fits (length sizes) left t → (s : Tuple)
       → negative_if o t.minus (sum_over o sizes t.implied (expr_value o sizes access t.body) s) ≡ gathered o (λ c. own_value c s) (counted_top sizes t)
   top_value t fit s =
       ap (negative_if o t.minus)
@@ -141,7 +141,7 @@ module _ {R : Type 0} (o : Values R) (sizes : List ℕ) (access : ℕ → List �
       ∙ values_own t fit (counted_top sizes t) (within-top sizes t) s
 
   -- the value of a statement is that of its terms, each summed over its loops that aren't on the left
-  pub tops-value : (tops : List Top) → Each (Fits (length sizes) left) tops → (s : Tuple)
+  pub tops-value : (tops : List TopTree) → Each (Fits (length sizes) left) tops → (s : Tuple)
       → tops_value o sizes access tops s ≡ gathered o (λ c. own_value c s) (flat_map (counted_top sizes) tops)
   tops-value [] e s = refl
   tops-value (t ∷ tops) e s =

@@ -2,9 +2,7 @@
 use Rattle.std.specs.Prelude.{◌≡◌, ◌<◌, ◌⊎◌, ℕ, suc, Bool, true, false, not, ◌&&◌, ◌||◌, List, [], ◌∷◌, ◌++◌, eqb, refl}
 use Rattle.std.proofs.Common.{arith, sym, ◌∙◌, ap, ap₂, subst, inl, inr}
 use Rattle.std.proofs.lemmas.Bool.{and_parts, or_parts, or_cases, or_left, or_right, not-true, eqb-true, eq-eqb}
-use Rattle.sam_model.specs.declared.expressions.Expr.{Expr}
-use Rattle.sam_model.specs.declared.expressions.Expr.TheVariants.{Access, Literal, Times', Plus', Minus', Negate', Sum'}
-use Rattle.sam_model.specs.declared.expressions.Top.{Top}
+use Rattle.sam_model.specs.Trees.{ExprTree, Access, Literal, Times, Plus, Minus, Negate, Sum, TopTree}
 use Rattle.sam_model.specs.Lists.{is_in, same_list}
 use Rattle.sam_model.specs.Accepted.{distinct}
 use Rattle.sam_model.proofs.Lists.{and-true, or-false}
@@ -82,17 +80,17 @@ outside_or_own false true e h = refl
 outside_or_own false false e h = absurd (cc)
 
 -- what is used is free or bound
-used_parts : (e : Expr) (k : ℕ) → is_in k (used_vars e) ≡ true → (is_in k (free_vars e) || is_in k (bound_vars e)) ≡ true
+used_parts : (e : ExprTree) (k : ℕ) → is_in k (used_vars e) ≡ true → (is_in k (free_vars e) || is_in k (bound_vars e)) ≡ true
 used_parts (Access n vars) k h = or_left (is_in k vars) false h
 used_parts (Literal n) k h = h
-used_parts (Times' p a q b) k h =
+used_parts (Times a b) k h =
     parts_both k (used_vars a) (used_vars b) (free_vars a) (free_vars b) (bound_vars a) (bound_vars b) (used_parts a k) (used_parts b k) h
-used_parts (Plus' p a q b) k h =
+used_parts (Plus a b) k h =
     parts_both k (used_vars a) (used_vars b) (free_vars a) (free_vars b) (bound_vars a) (bound_vars b) (used_parts a k) (used_parts b k) h
-used_parts (Minus' p a q b) k h =
+used_parts (Minus a b) k h =
     parts_both k (used_vars a) (used_vars b) (free_vars a) (free_vars b) (bound_vars a) (bound_vars b) (used_parts a k) (used_parts b k) h
-used_parts (Negate' p a) k h = used_parts a k h
-used_parts (Sum' j p a) k h =
+used_parts (Negate a) k h = used_parts a k h
+used_parts (Sum j a) k h =
     ap₂ (λ x y. x || y) (is_in-filter (λ v. not (eqb v j)) k (free_vars a)) (is_in-append k (bound_vars a) (j ∷ []))
     ∙ outside_or_own (is_in k (free_vars a)) (is_in k (bound_vars a)) (eqb k j) (used_parts a k h)
 
@@ -127,7 +125,7 @@ sums_right count ba bb fa fb h = record {
 }
 
 -- variables that are neither free nor bound aren't used
-unused : (e : Expr) (ks : List ℕ) → Apart ks (free_vars e) → Apart ks (bound_vars e) → Apart ks (used_vars e)
+unused : (e : ExprTree) (ks : List ℕ) → Apart ks (free_vars e) → Apart ks (bound_vars e) → Apart ks (used_vars e)
 unused e ks free bound k h = by_case (is_in k (used_vars e)) refl
   where
     by_case : (b : Bool) → is_in k (used_vars e) ≡ b → b ≡ false
@@ -135,13 +133,13 @@ unused e ks free bound k h = by_case (is_in k (used_vars e)) refl
     by_case false u = refl
 
 -- the two sides of a product, a sum or a difference
-record AreSides (count : ℕ) (a b : Expr) : Type 0 where
+record AreSides (count : ℕ) (a b : ExprTree) : Type 0 where
   left : AreSums count (bound_vars a) (free_vars a)
   right : AreSums count (bound_vars b) (free_vars b)
   first : Apart (bound_vars a) (used_vars b)
   second : Apart (bound_vars b) (used_vars a)
 
-sides : (count : ℕ) (a b : Expr) → AreSums count (bound_vars a ++ bound_vars b) (free_vars a ++ free_vars b) → AreSides count a b
+sides : (count : ℕ) (a b : ExprTree) → AreSums count (bound_vars a ++ bound_vars b) (free_vars a ++ free_vars b) → AreSides count a b
 sides count a b h =
     let parts = distinct_parts (bound_vars a) (bound_vars b) h.once in
     record {
@@ -154,14 +152,14 @@ sides count a b h =
           (apart_back (bound_vars a) (bound_vars b) parts.apart);
     }
 
-pub scoped : (count : ℕ) (e : Expr) → AreSums count (bound_vars e) (free_vars e) → IsScoped count e
+pub scoped : (count : ℕ) (e : ExprTree) → AreSums count (bound_vars e) (free_vars e) → IsScoped count e
 scoped count (Access n vars) h = tt
 scoped count (Literal n) h = tt
-scoped count (Times' p a q b) h = let s = sides count a b h in (scoped count a s.left, scoped count b s.right, s.first, s.second)
-scoped count (Plus' p a q b) h = let s = sides count a b h in (scoped count a s.left, scoped count b s.right, s.first, s.second)
-scoped count (Minus' p a q b) h = let s = sides count a b h in (scoped count a s.left, scoped count b s.right, s.first, s.second)
-scoped count (Negate' p a) h = scoped count a h
-scoped count (Sum' k p a) h = (scoped count a inner, h.in_range k (in_right k (bound_vars a) (k ∷ []) (or_left (eqb k k) false (eq-eqb k k refl))))
+scoped count (Times a b) h = let s = sides count a b h in (scoped count a s.left, scoped count b s.right, s.first, s.second)
+scoped count (Plus a b) h = let s = sides count a b h in (scoped count a s.left, scoped count b s.right, s.first, s.second)
+scoped count (Minus a b) h = let s = sides count a b h in (scoped count a s.left, scoped count b s.right, s.first, s.second)
+scoped count (Negate a) h = scoped count a h
+scoped count (Sum k a) h = (scoped count a inner, h.in_range k (in_right k (bound_vars a) (k ∷ []) (or_left (eqb k k) false (eq-eqb k k refl))))
   where
     parts : AreDistinct (bound_vars a) (k ∷ [])
     parts = distinct_parts (bound_vars a) (k ∷ []) h.once
@@ -179,7 +177,7 @@ scoped count (Sum' k p a) h = (scoped count a inner, h.in_range k (in_right k (b
 
 -- ---- what fits a left side
 
-pub record Fits (count : ℕ) (left : List ℕ) (t : Top) : Type 0 where
+pub record Fits (count : ℕ) (left : List ℕ) (t : TopTree) : Type 0 where
   pub used : (k : ℕ) → is_in k (used_vars t.body) ≡ true → k < count
   pub sums : AreSums count (bound_vars t.body) (free_vars t.body)
   pub off_left : Apart (bound_vars t.body) left
@@ -188,7 +186,7 @@ pub record Fits (count : ℕ) (left : List ℕ) (t : Top) : Type 0 where
 apart_test : (ks vs : List ℕ) → are_apart ks vs ≡ true → Apart ks vs
 apart_test ks vs h k e = not-true (is_in k vs) (list_all-member (λ v. not (is_in v vs)) ks k h e)
 
-pub fits : (count : ℕ) (left : List ℕ) (t : Top) → top_fits count left t ≡ true → Fits count left t
+pub fits : (count : ℕ) (left : List ℕ) (t : TopTree) → top_fits count left t ≡ true → Fits count left t
 fits count left t h =
     let bound = bound_vars t.body in
     let free = free_vars t.body in

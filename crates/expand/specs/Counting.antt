@@ -3,29 +3,27 @@ use Rattle.std.specs.Prelude.{◌≡◌, ◌<◌, ◌≤◌, ℕ, ◌+◌, ◌*�
 use Rattle.std.specs.List.{list_any}
 use Rattle.sam_base.specs.declared.TheConstants.{FACTORS_MOST, TERMS_MOST}
 use Rattle.sam_model.specs.declared.program.Term.{Term}
-use Rattle.sam_model.specs.declared.expressions.Expr.{Expr}
-use Rattle.sam_model.specs.declared.expressions.Expr.TheVariants.{Access, Literal, Times', Plus', Minus', Negate', Sum'}
-use Rattle.sam_model.specs.declared.expressions.Top.{Top}
+use Rattle.sam_model.specs.Trees.{ExprTree, Access, Literal, Times, Plus, Minus, Negate, Sum, TopTree}
 use Rattle.sam_model.specs.Expressions.{expanded, summed_over, with_sign}
 use Rattle.expand.specs.declared.faults.ExpandFault.{ExpandFault}
 use Rattle.expand.specs.declared.faults.ExpandFault.TheVariants.{Terms, Factors, OutOfMemory}
 
 -- the number of terms of an expression
-abbrev pub term_count : Expr → ℕ
+abbrev pub term_count : ExprTree → ℕ
 term_count (Access n vars) = 1
 term_count (Literal n) = 1
-term_count (Times' p a q b) = term_count a * term_count b
-term_count (Plus' p a q b) = term_count a + term_count b
-term_count (Minus' p a q b) = term_count a + term_count b
-term_count (Negate' p a) = term_count a
-term_count (Sum' k p a) = term_count a
+term_count (Times a b) = term_count a * term_count b
+term_count (Plus a b) = term_count a + term_count b
+term_count (Minus a b) = term_count a + term_count b
+term_count (Negate a) = term_count a
+term_count (Sum k a) = term_count a
 
-abbrev pub terms_count : List Top → ℕ
+abbrev pub terms_count : List TopTree → ℕ
 terms_count [] = 0
 terms_count (t ∷ tops) = term_count t.body + terms_count tops
 
 -- the terms of a top-level term
-abbrev pub top_terms : List ℕ → Top → List Term
+abbrev pub top_terms : List ℕ → TopTree → List Term
 top_terms sizes t = with_sign sizes t.minus (summed_over sizes t.implied (expanded sizes t.body))
 
 -- a term has too many factors

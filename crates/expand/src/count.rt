@@ -1,6 +1,7 @@
 //! How many terms a statement has, counted to one more than it may have.
 
 ghost use Rattle.std.specs.Prelude.{◌≡◌, min};
+ghost use Rattle.sam_model.specs.Trees.{tree_of};
 ghost use Rattle.expand.specs.Counting.{term_count, terms_count};
 
 use sam_base::TERMS_MOST;
@@ -9,7 +10,7 @@ use sam_model::{Expr, Top};
 const ENOUGH: usize = TERMS_MOST + 1;
 
 fn term_count(e: &Expr) -> usize
-    ensures { result ≡ min (term_count e.now) ENOUGH }
+    ensures { result ≡ min (term_count (tree_of e.now)) ENOUGH }
 {
     match e {
         Expr::Access { .. } | Expr::Literal(_) => 1,

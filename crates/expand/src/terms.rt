@@ -5,6 +5,7 @@ ghost use Rattle.std.specs.List.{flat_map};
 ghost use mathlib.Core.List.{map};
 ghost use Rattle.sam_model.specs.Denote.{has_var};
 ghost use Rattle.sam_model.specs.Accepted.{term_has};
+ghost use Rattle.sam_model.specs.Trees.{tree_of};
 ghost use Rattle.sam_model.specs.Expressions.{turned_term, joined_term, summed_term, expanded, summed_over, with_sign, expanded_tops};
 ghost use Rattle.expand.specs.Counting.{is_long, have_long, top_terms};
 
@@ -186,9 +187,9 @@ fn both(mut terms: Vec<Term>, mut more: Vec<Term>) -> Result<Vec<Term>, AllocErr
 
 /// The terms of an expression.
 fn terms_of(alloc: Global, e: &Expr, sizes: &[u64]) -> Result<Vec<Term>, ExpandFault>
-    ensures made { IfOk result (λ terms. terms.items ≡ expanded sizes.now e.now) }
-    ensures short { IsOk result → have_long (expanded sizes.now e.now) ≡ false }
-    ensures long { IsErrOf result ExpandFault.Factors → have_long (expanded sizes.now e.now) ≡ true }
+    ensures made { IfOk result (λ terms. terms.items ≡ expanded sizes.now (tree_of e.now)) }
+    ensures short { IsOk result → have_long (expanded sizes.now (tree_of e.now)) ≡ false }
+    ensures long { IsErrOf result ExpandFault.Factors → have_long (expanded sizes.now (tree_of e.now)) ≡ true }
     ensures never { IsErrOf result ExpandFault.Terms → ⊥ }
 {
     match e {

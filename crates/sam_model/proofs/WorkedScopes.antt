@@ -1,66 +1,61 @@
 -- The scopes of expressions evaluated: which variables stand where, and which top-level terms fit a left side.
-use Rattle.std.specs.Prelude.{◌≡◌, ℕ, true, false, List, [], ◌∷◌, Box, refl}
-use Rattle.std.specs.declared.alloc.Global.{Global}
-use Rattle.sam_model.specs.declared.expressions.Expr.{Expr}
-use Rattle.sam_model.specs.declared.expressions.Expr.TheVariants.{Access, Times', Plus', Sum'}
-use Rattle.sam_model.specs.declared.expressions.Top.{Top}
+use Rattle.std.specs.Prelude.{◌≡◌, ℕ, true, false, List, [], ◌∷◌, refl}
+use Rattle.sam_model.specs.Trees.{ExprTree, Access, Times, Plus, Sum, TopTree}
 use Rattle.sam_model.specs.Scopes.{bound_vars, used_vars, free_vars, implied_of, top_fits}
 
--- the places of boxes say nothing
-module _ (p : Box (Unit {0}) Global) where
-  -- variables i, j and k are 0, 1 and 2; i is on the left
-  abbrev B_of_ij : Expr
-  B_of_ij = Access 0 (0 ∷ 1 ∷ [])
+-- variables i, j and k are 0, 1 and 2; i is on the left
+abbrev B_of_ij : ExprTree
+B_of_ij = Access 0 (0 ∷ 1 ∷ [])
 
-  abbrev d_of_i : Expr
-  d_of_i = Access 1 (0 ∷ [])
+abbrev d_of_i : ExprTree
+d_of_i = Access 1 (0 ∷ [])
 
-  abbrev both : Expr
-  both = Plus' p B_of_ij p d_of_i
+abbrev both : ExprTree
+both = Plus B_of_ij d_of_i
 
-  abbrev over_j : Expr → Expr
-  over_j a = Sum' 1 p a
+abbrev over_j : ExprTree → ExprTree
+over_j a = Sum 1 a
 
-  abbrev top : Expr → List ℕ → Top
-  top body implied = record { minus = false; body = body; implied = implied }
+abbrev top : ExprTree → List ℕ → TopTree
+top body implied = record { minus = false; body = body; implied = implied }
 
-  variables-used : used_vars (over_j both) ≡ 0 ∷ 1 ∷ 0 ∷ []
-  variables-used = refl
+variables-used : used_vars (over_j both) ≡ 0 ∷ 1 ∷ 0 ∷ []
+variables-used = refl
 
-  variables-free : free_vars (over_j both) ≡ 0 ∷ 0 ∷ []
-  variables-free = refl
+variables-free : free_vars (over_j both) ≡ 0 ∷ 0 ∷ []
+variables-free = refl
 
-  variables-bound : bound_vars (over_j (Sum' 2 p both)) ≡ 2 ∷ 1 ∷ []
-  variables-bound = refl
+variables-bound : bound_vars (over_j (Sum 2 both)) ≡ 2 ∷ 1 ∷ []
+variables-bound = refl
 
-  implied-j : implied_of 3 (0 ∷ []) both ≡ 1 ∷ []
-  implied-j = refl
+implied-j : implied_of 3 (0 ∷ []) both ≡ 1 ∷ []
+implied-j = refl
 
-  implied-none : implied_of 3 (0 ∷ []) (over_j both) ≡ []
-  implied-none = refl
+implied-none : implied_of 3 (0 ∷ []) (over_j both) ≡ []
+implied-none = refl
 
-  implied-fits : top_fits 3 (0 ∷ []) (top both (1 ∷ [])) ≡ true
-  implied-fits = refl
+implied-fits : top_fits 3 (0 ∷ []) (top both (1 ∷ [])) ≡ true
+implied-fits = refl
 
-  summed-fits : top_fits 3 (0 ∷ []) (top (over_j both) []) ≡ true
-  summed-fits = refl
+summed-fits : top_fits 3 (0 ∷ []) (top (over_j both) []) ≡ true
+summed-fits = refl
 
-  -- an implied variable that isn't listed
-  forgotten : top_fits 3 (0 ∷ []) (top both []) ≡ false
-  forgotten = refl
+-- an implied variable that isn't listed
+forgotten : top_fits 3 (0 ∷ []) (top both []) ≡ false
+forgotten = refl
 
-  -- two sums over one variable
-  twice : top_fits 3 (0 ∷ []) (top (Times' p (over_j B_of_ij) p (over_j B_of_ij)) []) ≡ false
-  twice = refl
+-- two sums over one variable
+twice : top_fits 3 (0 ∷ []) (top (Times (over_j B_of_ij) (over_j B_of_ij)) []) ≡ false
+twice = refl
 
-  -- a variable beside its sum
-  beside : top_fits 3 (0 ∷ []) (top (Plus' p (over_j B_of_ij) p B_of_ij) []) ≡ false
-  beside = refl
+-- a variable beside its sum
+beside : top_fits 3 (0 ∷ []) (top (Plus (over_j B_of_ij) B_of_ij) []) ≡ false
+beside = refl
 
-  -- a sum over a variable of the left
-  on_left : top_fits 3 (0 ∷ []) (top (Sum' 0 p both) (1 ∷ [])) ≡ false
-  on_left = refl
+-- a sum over a variable of the left
+on_left : top_fits 3 (0 ∷ []) (top (Sum 0 both) (1 ∷ [])) ≡ false
+on_left = refl
 
-  -- a variable out of range
-  outside : top_fits 1 (0 ∷ []) (top both (1 ∷ [])) ≡ false
-  outside = refl
+-- a variable out of range
+outside : top_fits 1 (0 ∷ []) (top both (1 ∷ [])) ≡ false
+outside = refl

@@ -6,9 +6,7 @@ use Rattle.sam_model.specs.declared.tensors.Tensor.{Tensor}
 use Rattle.sam_model.specs.declared.tensors.Entries.{Entries}
 use Rattle.sam_model.specs.declared.program.Factor.TheVariants as factor
 use Rattle.sam_model.specs.declared.program.Term.{Term}
-use Rattle.sam_model.specs.declared.expressions.Expr.{Expr}
-use Rattle.sam_model.specs.declared.expressions.Expr.TheVariants.{Access, Literal, Times', Plus', Minus', Negate', Sum'}
-use Rattle.sam_model.specs.declared.expressions.Top.{Top}
+use Rattle.sam_model.specs.Trees.{ExprTree, Access, Literal, Times, Plus, Minus, Negate, Sum, TopTree}
 use Rattle.sam_model.specs.Lists.{items_at, coordinate}
 use Rattle.sam_model.specs.Tensors.{is_stored, value_at}
 use Rattle.sam_model.specs.Denote.{stored_of, tensor_at, order_at}
@@ -68,17 +66,17 @@ module _ {R : Type 0} (o : Values R) where
     -- expressions, where the value of an access is given by the number of its tensor and the coordinates by mode
     module _ (access : ℕ → List ℕ → R) where
       -- the value of an expression at a tuple
-      abbrev pub expr_value : Expr → Tuple → R
+      abbrev pub expr_value : ExprTree → Tuple → R
       expr_value (Access n vars) s = access n (map s vars)
       expr_value (Literal n) s = o.literal n
-      expr_value (Times' p a q b) s = o.mul (expr_value a s) (expr_value b s)
-      expr_value (Plus' p a q b) s = o.add (expr_value a s) (expr_value b s)
-      expr_value (Minus' p a q b) s = o.add (expr_value a s) (o.mul o.minus (expr_value b s))
-      expr_value (Negate' p a) s = o.mul o.minus (expr_value a s)
-      expr_value (Sum' k p a) s = sum_for k (expr_value a) s
+      expr_value (Times a b) s = o.mul (expr_value a s) (expr_value b s)
+      expr_value (Plus a b) s = o.add (expr_value a s) (expr_value b s)
+      expr_value (Minus a b) s = o.add (expr_value a s) (o.mul o.minus (expr_value b s))
+      expr_value (Negate a) s = o.mul o.minus (expr_value a s)
+      expr_value (Sum k a) s = sum_for k (expr_value a) s
 
       -- that of a statement: the sum of its top-level terms with their signs, each over its implied variables
-      abbrev pub tops_value : List Top → Tuple → R
+      abbrev pub tops_value : List TopTree → Tuple → R
       tops_value [] s = o.none
       tops_value (t ∷ ts) s = o.add (negative_if t.minus (sum_over t.implied (expr_value t.body) s)) (tops_value ts s)
 
@@ -93,7 +91,7 @@ module _ (tensors : List Tensor) (es : List Entries) where
   abbrev pub access_presence : ℕ → List ℕ → Bool
   access_presence n place = is_stored (tensor_at (stored_of tensors es) n) (items_at place (order_at tensors n))
 
-  module _ (sizes left : List ℕ) (tops : List Top) where
+  module _ (sizes left : List ℕ) (tops : List TopTree) where
     -- the number that the statement denotes at coordinates x of the result
     abbrev pub denoted : List ℕ → ℕ
     denoted x = tops_value number_values sizes access_number tops (at_left left x) % 2 ^ 64
@@ -117,14 +115,14 @@ module _ (sizes : List ℕ) where
   abbrev pub summed_term : ℕ → Term → Term
   summed_term k t = cond (term_has t k) t (record t { factors = t.factors ++ factor.Literal (slice_index sizes k) ∷ [] })
 
-  abbrev pub expanded : Expr → List Term
+  abbrev pub expanded : ExprTree → List Term
   expanded (Access n vars) = record { minus = false; factors = factor.Access n vars ∷ [] } ∷ []
   expanded (Literal n) = record { minus = false; factors = factor.Literal n ∷ [] } ∷ []
-  expanded (Times' p a q b) = flat_map (λ t. map (joined_term t) (expanded b)) (expanded a)
-  expanded (Plus' p a q b) = expanded a ++ expanded b
-  expanded (Minus' p a q b) = expanded a ++ map turned_term (expanded b)
-  expanded (Negate' p a) = map turned_term (expanded a)
-  expanded (Sum' k p a) = map (summed_term k) (expanded a)
+  expanded (Times a b) = flat_map (λ t. map (joined_term t) (expanded b)) (expanded a)
+  expanded (Plus a b) = expanded a ++ expanded b
+  expanded (Minus a b) = expanded a ++ map turned_term (expanded b)
+  expanded (Negate a) = map turned_term (expanded a)
+  expanded (Sum k a) = map (summed_term k) (expanded a)
 
   -- summed over several variables, of which the first is innermost
   abbrev pub summed_over : List ℕ → List Term → List Term
@@ -135,5 +133,5 @@ module _ (sizes : List ℕ) where
   with_sign minus ts = cond minus (map turned_term ts) ts
 
   -- the terms of a statement, in the order of its text
-  abbrev pub expanded_tops : List Top → List Term
+  abbrev pub expanded_tops : List TopTree → List Term
   expanded_tops tops = flat_map (λ t. with_sign t.minus (summed_over t.implied (expanded t.body))) tops

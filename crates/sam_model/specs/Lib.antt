@@ -5,6 +5,8 @@ pub mod ResultText
 pub mod Listing
 pub mod Children
 pub mod Accepted
+pub mod Trees
+pub mod TreeCode
 pub mod Expressions
 pub mod Scopes
 pub mod Program

@@ -207,7 +207,8 @@ fn is_access(factor: &Factor) -> bool
     }
 }
 
-fn has_access(factors: &[Factor]) -> bool
+/// Whether one of these factors is an access.
+pub fn has_access(factors: &[Factor]) -> bool
     ensures { result ≡ list_any is_access factors.now }
 {
     factors.iter().any(|factor| is_access(factor))
@@ -245,7 +246,7 @@ fn count_after(left: &[u64], v: u64) -> usize
 }
 
 /// Whether at most two variables of the left come after a variable, unless it is on the left itself.
-fn reduces(left: &[u64], v: u64) -> bool
+pub fn reduces(left: &[u64], v: u64) -> bool
     ensures { result ≡ reduces left.now v }
 {
     is_in(v, left) || count_after(left, v) <= 2

@@ -1,6 +1,7 @@
 //! Expressions: what a statement has on its right side, with parentheses and explicit sums.
 
 use sam_base::Nums;
+use std::marker::Model;
 
 /// An expression: an access of a tensor, by its number, with a variable for each mode; a number; a product, a sum, a
 /// difference or the negative of expressions; or the sum of an expression over all numbers below the size of a variable.
@@ -22,4 +23,15 @@ pub struct Top {
     pub minus: bool,
     pub body: Expr,
     pub implied: Nums,
+}
+
+impl Model for Top {
+    ghost use Rattle.sam_model.specs.Trees.{TopTree, tree_of};
+    ghost use Rattle.sam_model.specs.TreeCode.{top_code};
+
+    ghost Value = { TopTree };
+
+    ghost coded = { top_code };
+
+    ghost view = { λ t. record { minus = t.minus; body = tree_of t.body; implied = t.implied } };
 }

@@ -8,7 +8,7 @@ mod tensors;
 
 pub use acceptance::{
     are_below, are_compressed, are_dimensions, ascending, distinct, distinct_names, fits_by_terms,
-    is_in, is_named, is_order, is_taken, item_at, statement_fits, term_has,
+    has_access, is_in, is_named, is_order, is_taken, item_at, reduces, statement_fits, term_has,
 };
 pub use expressions::{Expr, Top};
 pub use program::{Factor, Program, Term};
