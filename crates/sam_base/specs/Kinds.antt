@@ -10,10 +10,12 @@ use Rattle.sam_base.specs.declared.faults.TnsKind.TheVariants as tns
 abbrev pub note_kind : NoteKind → List ℕ
 note_kind note.BadChar = codes "BadChar"
 note_kind note.ExpectedName = codes "ExpectedName"
+note_kind note.ExpectedOpen = codes "ExpectedOpen"
 note_kind note.ExpectedComma = codes "ExpectedComma"
 note_kind note.ExpectedEquals = codes "ExpectedEquals"
 note_kind note.Parenthesis = codes "Parenthesis"
 note_kind note.SumForm = codes "SumForm"
+note_kind note.TooDeep = codes "TooDeep"
 note_kind note.NumberTooLarge = codes "NumberTooLarge"
 note_kind note.ExpectedFactor = codes "ExpectedFactor"
 note_kind note.ExpectedOperator = codes "ExpectedOperator"
@@ -34,6 +36,8 @@ program_kind (program.ResultOnRight name) = codes "ResultOnRight " ++ name
 program_kind (program.ArityMismatch name) = codes "ArityMismatch " ++ name
 program_kind (program.RepeatedVariable name) = codes "RepeatedVariable " ++ name
 program_kind (program.DimMismatch name) = codes "DimMismatch " ++ name
+program_kind (program.UnusedSum name) = codes "UnusedSum " ++ name
+program_kind (program.BoundVariable name) = codes "BoundVariable " ++ name
 program_kind program.ExpandedTerms = codes "ExpandedTerms"
 program_kind program.ExpandedFactors = codes "ExpandedFactors"
 program_kind program.NoAccess = codes "NoAccess"

@@ -12,6 +12,8 @@ pub enum NoteKind {
     BadChar,
     /// A name was to stand here: at the start, after `(` or after `,` inside an access.
     ExpectedName,
+    /// `(` was to stand here, after the word `sum`.
+    ExpectedOpen,
     /// `,` or `)` was to stand here, after a variable.
     ExpectedComma,
     /// `=` was to stand here, after the left access; or `(` or `=` after its name.
@@ -20,6 +22,8 @@ pub enum NoteKind {
     Parenthesis,
     /// The word `sum` stands where a factor is expected.
     SumForm,
+    /// `(` opens more parentheses and sums within each other than a statement may have.
+    TooDeep,
     /// A decimal above 2^64-1 stands where a factor is expected.
     NumberTooLarge,
     /// Something else stands where a factor is expected.
@@ -59,6 +63,10 @@ pub enum ProgramKind {
     RepeatedVariable(Name),
     /// This variable stands at two dimensions that differ.
     DimMismatch(Name),
+    /// The variable of this sum stands in no access.
+    UnusedSum(Name),
+    /// The variable of this sum is on the left, is that of another sum of the same term, or stands outside this sum too.
+    BoundVariable(Name),
     /// There are more expanded terms than a program may have.
     ExpandedTerms,
     /// An expanded term has more factors than a term may have.
@@ -105,6 +113,21 @@ pub struct Waiting {
     pub block: u32,
     pub channel: u32,
     pub full: bool,
+}
+
+/// A rule that a graph has to keep, whoever made it.
+#[derive(Clone, Copy, Debug, PartialEq, Eq)]
+pub enum Rule {
+    /// Each block has the ports of its kind, and the channel at each names it back.
+    Ports,
+    /// Each channel stands at both ports that it names.
+    Stray,
+    /// No channels lead from a block back to it.
+    Cycle,
+    /// There is one writer for each level of the result, and one for its values.
+    Writers,
+    /// Each block has labels that its kind allows.
+    Labels,
 }
 
 /// Why a command gives no result. Names are names of files; lines count from 1, and 0 stands for no line.

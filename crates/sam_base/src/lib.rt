@@ -5,7 +5,7 @@ mod faults;
 mod lists;
 mod texts;
 
-pub use faults::{Fault, NoteKind, ProgramKind, TnsKind, Waiting, status};
+pub use faults::{Fault, NoteKind, ProgramKind, Rule, TnsKind, Waiting, status};
 pub use lists::{Items, Name, Nums};
 pub use texts::{fault_text, waiting_lines};
 
