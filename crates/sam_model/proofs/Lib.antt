@@ -5,6 +5,7 @@ mod WorkedExpressions
 mod WorkedListing
 mod WorkedScopes
 pub mod AcceptedLemmas
+pub mod AcceptedPrograms
 pub mod Lists
 pub mod Moduli
 pub mod Orders

@@ -10,6 +10,7 @@ use Rattle.sam_model.specs.declared.program.Program.{Program}
 use Rattle.sam_model.specs.Trees.{ExprTree, Access, Literal, Times, Plus, Minus, Negate, Sum, TopTree}
 use Rattle.sam_model.specs.Denote.{den, pat}
 use Rattle.sam_model.specs.Expressions.{denoted, found, expanded, expanded_tops}
+use Rattle.sam_model.specs.Statement.{statement_entries}
 use Rattle.sam_model.proofs.Rows.{tensor, vector, entries, plus, minus_term, program}
 
 -- what a statement denotes at the coordinates of a vector, each with whether it is found
@@ -87,6 +88,12 @@ squares-terms = refl
 
 squares-same : term_row vectors vector_files (4 ∷ []) squares (0 ∷ 1 ∷ 2 ∷ 3 ∷ []) ≡ row vectors vector_files (4 ∷ []) squares (0 ∷ 1 ∷ 2 ∷ 3 ∷ [])
 squares-same = refl
+
+-- the same as the statement of a program
+squares-entries :
+    statement_entries (record (program vectors (vector 4) (0 ∷ []) [] (4 ∷ [])) { tops = squares }) vector_files
+    ≡ (0 ∷ [], 4) ∷ (2 ∷ [], 2 ^ 64 - 24) ∷ (3 ∷ [], 2 ^ 64 - 1) ∷ []
+squares-entries = refl
 
 -- x(i) = (b(i))
 copy-row : row vectors vector_files (4 ∷ []) (top b [] ∷ []) (0 ∷ 1 ∷ 2 ∷ 3 ∷ []) ≡ (2, true) ∷ (0, false) ∷ (5, true) ∷ (0, false) ∷ []

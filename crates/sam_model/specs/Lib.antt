@@ -10,3 +10,4 @@ pub mod TreeCode
 pub mod Expressions
 pub mod Scopes
 pub mod Program
+pub mod Statement

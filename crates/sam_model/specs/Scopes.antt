@@ -43,9 +43,13 @@ are_apart vs ws = list_all (λ v. not (is_in v ws)) vs
 abbrev pub are_in_range : ℕ → List ℕ → Bool
 are_in_range count vs = list_all (λ v. nat_lt v count) vs
 
--- the implied variables, ascending: those of its accesses that are neither on the left nor those of a sum in it
+-- a variable is implied: it is one of its accesses, and neither on the left nor that of a sum in it
+abbrev pub is_implied : List ℕ → ExprTree → ℕ → Bool
+is_implied left e v = is_in v (used_vars e) && (not (is_in v left) && not (is_in v (bound_vars e)))
+
+-- the implied variables, ascending
 abbrev pub implied_of : ℕ → List ℕ → ExprTree → List ℕ
-implied_of count left e = filter (λ v. is_in v (used_vars e) && (not (is_in v left) && not (is_in v (bound_vars e)))) (below count)
+implied_of count left e = filter (is_implied left e) (below count)
 
 -- The variables are in range. That of a sum is that of no other sum, isn't on the left, and stands only inside its sum. The
 -- implied variables are those that are to be implied.
