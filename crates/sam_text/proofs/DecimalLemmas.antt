@@ -1,8 +1,9 @@
 -- The number of digits.
-use Rattle.std.proofs.Common.{Option, Some, None, Result, Ok, Err, ◌^◌, subst, nat_lt, cond, ◌&&◌, ◌⊎◌, inl, inr, ◌≡◌, ℕ, zero, suc, ◌+◌, ◌-◌, ◌*◌, ◌<◌, ◌≤◌, List, [], ◌∷◌, length, take, drop, get_or, Bool, true, false, refl, sym, ap, ◌∙◌, arith, fold}
+use Rattle.std.proofs.Common.{Option, Some, None, Result, Ok, Err, ◌^◌, subst, nat_lt, cond, ◌&&◌, ◌⊎◌, inl, inr, ◌≡◌, ℕ, zero, suc, ◌+◌, ◌-◌, ◌*◌, ◌<◌, ◌≤◌, List, [], ◌∷◌, length, take, drop, get_or, min, Bool, true, false, refl, sym, ap, ◌∙◌, arith, fold}
 use Rattle.std.specs.List.{list_all, prefix_len}
 use Rattle.std.proofs.lemmas.Bool.{and_parts, le-ltb, cond-true, cond-false}
-use Rattle.std.proofs.lemmas.List.Sums.{fold_more, fold-append, prefix_len_stops}
+use Rattle.std.proofs.Math.Nat.{pow-succ'}
+use Rattle.std.proofs.lemmas.List.Sums.{fold_more, fold-append, prefix_len_stops, prefix_len-le-length}
 use Rattle.std.proofs.lemmas.List.Folds.{list_all_at}
 use Rattle.std.proofs.lemmas.List.{take-append-drop}
 use Rattle.sam_text.specs.Bytes.{is_digit}
@@ -67,3 +68,29 @@ value-step false from n o e = ap (answer from) e
 
 pub number_at-value : (from : ℕ) (bs : List ℕ) (o : Option ℕ) → is_decimal bs ≡ true → o ≡ cond (nat_lt (decimal bs) (2 ^ 64)) (Some (decimal bs)) None → answer from o ≡ number_reading from bs
 number_at-value from bs o h e = value-step (nat_lt (decimal bs) (2 ^ 64)) from (decimal bs) o e ∙ sym (cond-true (is_decimal bs) _ _ h)
+
+-- ---- the digits at the beginning
+
+pub tens : (k n : ℕ) → k ≤ n → 10 ^ k ≤ 10 ^ n
+tens zero zero h = omega arith
+tens zero (suc n) h = let r = tens zero n (omega arith) in omega (arith, r, pow-succ' 10 n)
+tens (suc k) zero h = absurd (omega (arith, h))
+tens (suc k) (suc n) h = let r = tens k n (omega arith) in omega (arith, r, pow-succ' 10 k, pow-succ' 10 n)
+
+passes-least : (n : ℕ) (bs : List ℕ) → n ≤ length bs → list_all is_digit (take n bs) ≡ true → n ≤ prefix_len is_digit bs
+passes-least zero bs h all = omega arith
+passes-least (suc n) [] h all = absurd (omega arith)
+passes-least (suc n) (b ∷ bs) h all = let parts : (is_digit b ≡ true) × (list_all is_digit (take n bs) ≡ true) = and_parts _ _ all in let r = passes-least n bs (omega arith) parts.1 in rw parts.0 (omega (arith, r))
+
+passes-here : (n : ℕ) (bs : List ℕ) → n < length bs → list_all is_digit (take n bs) ≡ true → is_digit (get_or bs n 0) ≡ false → prefix_len is_digit bs ≡ n
+passes-here n [] h all fails = absurd (omega arith)
+passes-here zero (b ∷ bs) h all fails = rw fails refl
+passes-here (suc n) (b ∷ bs) h all fails = let parts : (is_digit b ≡ true) × (list_all is_digit (take n bs) ≡ true) = and_parts _ _ all in rw (parts.0, passes-here n bs (omega arith) parts.1 fails) (omega arith)
+
+-- where reading stops before the most digits, the digits end
+pub stops-before : (n most : ℕ) (bs : List ℕ) → n < length bs → n ≤ most → list_all is_digit (take n bs) ≡ true → is_digit (get_or bs n 0) ≡ false → n ≡ min most (prefix_len is_digit bs)
+stops-before n most bs h k all fails = rw (passes-here n bs h all fails) (omega arith)
+
+-- where it goes on to the most or to the end of the text
+pub stops-last : (n most : ℕ) (bs : List ℕ) → n ≤ length bs → n ≤ most → min (length bs) most ≤ n → list_all is_digit (take n bs) ≡ true → n ≡ min most (prefix_len is_digit bs)
+stops-last n most bs h k last all = omega (arith, passes-least n bs h all, prefix_len-le-length is_digit bs)

@@ -1,3 +1,4 @@
 pub mod PlaceLemmas
+pub mod LineWords
 pub mod DecimalLemmas
 pub mod Worked

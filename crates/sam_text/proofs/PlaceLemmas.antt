@@ -154,22 +154,33 @@ no_word text from to gaps h k e last =
 digit-no-gap : (b : ℕ) → is_digit b ≡ true → is_gap b ≡ false
 digit-no-gap b h = grind (arith, nat_tests)
 
--- digits up to a gap, or up to the end, are the first word
-pub digits-end : (n : ℕ) (bs : List ℕ) → n ≤ length bs → list_all is_digit (take n bs) ≡ true → (n < length bs → is_gap (get_or bs n 0) ≡ true) → position_or_len is_gap bs ≡ n
-digits-end zero [] h all ends = refl
-digits-end zero (b ∷ bs) h all ends = rw (ends (omega arith)) refl
-digits-end (suc n) [] h all ends = absurd (omega arith)
-digits-end (suc n) (b ∷ bs) h all ends =
-    let parts = and_parts _ _ all in
-    let rest = digits-end n bs (omega arith) parts.1 (λ l. ends (omega arith)) in
-    rw (digit-no-gap b parts.0, rest) (omega arith)
+no-gap-more : (n : ℕ) (bs : List ℕ) → list_all is_digit (take n bs) ≡ true → list_all (λ b. not (is_gap b)) (take n bs) ≡ true
+no-gap-more zero bs all = refl
+no-gap-more (suc n) [] all = refl
+no-gap-more (suc n) (b ∷ bs) all =
+    let parts : (is_digit b ≡ true) × (list_all is_digit (take n bs) ≡ true) = and_parts _ _ all in
+    rw (digit-no-gap b parts.0) (no-gap-more n bs parts.1)
+
+-- bytes up to a gap, or up to the end, are the first word
+word-end : (n : ℕ) (bs : List ℕ) → n ≤ length bs → list_all (λ b. not (is_gap b)) (take n bs) ≡ true → (n < length bs → is_gap (get_or bs n 0) ≡ true) → position_or_len is_gap bs ≡ n
+word-end zero [] h all ends = refl
+word-end zero (b ∷ bs) h all ends = rw (ends (omega arith)) refl
+word-end (suc n) [] h all ends = absurd (omega arith)
+word-end (suc n) (b ∷ bs) h all ends =
+    let parts : (not (is_gap b) ≡ true) × (list_all (λ b. not (is_gap b)) (take n bs) ≡ true) = and_parts _ _ all in
+    let rest : position_or_len is_gap bs ≡ n = word-end n bs (omega arith) parts.1 (λ l. ends (omega arith)) in
+    rw (parts.0, rest) (omega arith)
+
+pub word-first : (n : ℕ) (bs : List ℕ) → 0 < n → n ≤ length bs → list_all (λ b. not (is_gap b)) (take n bs) ≡ true → (n < length bs → is_gap (get_or bs n 0) ≡ true)
+    → words bs ≡ take n bs ∷ words (drop n bs)
+word-first n bs some h all ends =
+    let e = word-end n bs h all ends in
+    let w = words_by bs (omega arith) (omega arith) in
+    w ∙ ap (λ k. take k bs ∷ words (drop k bs)) e
 
 pub digits-first : (n : ℕ) (bs : List ℕ) → 0 < n → n ≤ length bs → list_all is_digit (take n bs) ≡ true → (n < length bs → is_gap (get_or bs n 0) ≡ true)
     → words bs ≡ take n bs ∷ words (drop n bs)
-digits-first n bs some h all ends =
-    let e = digits-end n bs h all ends in
-    let w = words_by bs (omega arith) (omega arith) in
-    w ∙ ap (λ k. take k bs ∷ words (drop k bs)) e
+digits-first n bs some h all ends = word-first n bs some h (no-gap-more n bs all) ends
 
 -- ---- a line that is skipped
 
