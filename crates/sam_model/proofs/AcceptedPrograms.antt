@@ -1,75 +1,94 @@
 -- What is known of an accepted program: its parts, and that its terms are what its top-level terms expand to.
-use Rattle.std.specs.Prelude.{◌≡◌, ◌≤◌, ℕ, Bool, true, false, ◌==◌, List, [], ◌∷◌, length, eqb, nat_le, refl}
-use Rattle.std.specs.Bool.{beq}
-use Rattle.std.specs.List.{list_all}
-use Rattle.std.proofs.Common.{sym, ap, ap₂, ◌∙◌}
-use Rattle.std.proofs.lemmas.Bool.{and_parts, not-true, eq-eqb, eqb-true, leb-true}
-use Rattle.sam_base.specs.declared.TheConstants.{TERMS_MOST, VARIABLES_MOST}
-use Rattle.sam_model.specs.declared.program.Factor.{Factor}
-use Rattle.sam_model.specs.declared.program.Factor.TheVariants.{Access, Literal}
+use Rattle.std.specs.Prelude.{◌≡◌, ◌<◌, ◌≤◌, ℕ, true, false, ◌&&◌, ◌==◌, List, [], ◌∷◌, length, slice_index, eqb, nat_le, nat_lt, refl}
+use Rattle.std.specs.List.{list_all, list_any}
+use mathlib.Core.List.{map}
+use Rattle.std.proofs.Common.{◌⊎◌, inl, inr, arith, sym, ap, ◌∙◌}
+use Rattle.std.proofs.lemmas.Bool.{and_parts, or_cases, not-true, eqb-true, leb-true, ltb-true}
+use Rattle.sam_base.specs.declared.TheConstants.{FACTORS_MOST, TERMS_MOST, VARIABLES_MOST}
+use Rattle.sam_model.specs.declared.tensors.Tensor.{Tensor}
 use Rattle.sam_model.specs.declared.program.Term.{Term}
 use Rattle.sam_model.specs.declared.program.Program.{Program}
-use Rattle.sam_model.specs.Lists.{below, same_list}
-use Rattle.sam_model.specs.Accepted.{is_operand, is_result, is_taken, distinct_tensors, distinct_names, stands, access_fits, term_fits}
-use Rattle.sam_model.specs.Accepted.{declarations_fit, statement_fits, fits_by_terms}
+use Rattle.sam_model.specs.Lists.{below, items_at, is_in}
+use Rattle.sam_model.specs.Accepted.{distinct, distinct_names, ascending, is_dimension, is_order, is_well_formed, is_operand, is_result}
+use Rattle.sam_model.specs.Accepted.{variables_fit, access_fits, factor_fits, is_access, term_has, factor_reduces, term_fits, stands}
+use Rattle.sam_model.specs.Accepted.{is_taken, distinct_tensors, declarations_fit, statement_fits, fits_by_terms}
 use Rattle.sam_model.specs.Expressions.{expanded_tops}
 use Rattle.sam_model.specs.Scopes.{top_fits}
-use Rattle.sam_model.specs.Program.{same_factor, same_factors, same_term, same_terms, tops_fit, accepted}
-use Rattle.sam_model.proofs.Orders.{same_list-self, same_list-true}
+use Rattle.sam_model.specs.Program.{same_terms, tops_fit, accepted}
+use Rattle.sam_model.proofs.EqualTerms.{same_terms-self, same_terms-true}
 
--- ---- equal terms
+-- ---- tensors
 
-beq-self : (b : Bool) → beq b b ≡ true
-beq-self true = refl
-beq-self false = refl
+pub record WellFormed (t : Tensor) : Type 0 where
+  pub few : length t.dims ≤ 8
+  pub dims : list_all is_dimension t.dims ≡ true
+  pub formats : length t.formats ≡ length t.dims
+  pub order : is_order (length t.dims) t.order ≡ true
 
-beq-true : (a b : Bool) → beq a b ≡ true → a ≡ b
-beq-true true true e = refl
-beq-true true false e = absurd (cc)
-beq-true false true e = absurd (cc)
-beq-true false false e = refl
+pub well-formed : (t : Tensor) → is_well_formed t ≡ true → WellFormed t
+well-formed t h =
+    let few = and_parts (nat_le (length t.dims) VARIABLES_MOST) _ h in
+    let dims = and_parts (list_all is_dimension t.dims) _ few.1 in
+    let formats = and_parts (length t.formats == length t.dims) _ dims.1 in
+    record { few = leb-true _ _ few.0; dims = dims.0; formats = eqb-true _ _ formats.0; order = formats.1 }
 
-same_factors-self : (fs : List Factor) → same_factors fs fs ≡ true
-same_factors-self [] = refl
-same_factors-self (Access n vars ∷ fs) = rw (eq-eqb n n refl) (rw (same_list-self vars) (same_factors-self fs))
-same_factors-self (Literal n ∷ fs) = rw (eq-eqb n n refl) (same_factors-self fs)
+-- ---- the variables of an access
 
-pub same_terms-self : (ts : List Term) → same_terms ts ts ≡ true
-same_terms-self [] = refl
-same_terms-self (t ∷ ts) = rw (beq-self t.minus) (rw (same_factors-self t.factors) (same_terms-self ts))
+pub record Variables (sizes dims vars : List ℕ) : Type 0 where
+  pub count : length vars ≡ length dims
+  pub dims_are : map (slice_index sizes) vars ≡ dims
+  pub in_range : (v : ℕ) → is_in v vars ≡ true → v < length sizes
 
-same_factor-true : (f g : Factor) → same_factor f g ≡ true → f ≡ g
-same_factor-true (Access m vars) (Access n others) e =
-    let both = and_parts (eqb m n) (same_list vars others) e in ap₂ (λ (k : ℕ) (vs : List ℕ). Access k vs) (eqb-true m n both.0) (same_list-true vars others both.1)
-same_factor-true (Access m vars) (Literal n) e = absurd (cc)
-same_factor-true (Literal m) (Access n others) e = absurd (cc)
-same_factor-true (Literal m) (Literal n) e = ap (λ (k : ℕ). Literal k) (eqb-true m n e)
-
-same_factors-true : (fs gs : List Factor) → same_factors fs gs ≡ true → fs ≡ gs
-same_factors-true [] [] e = refl
-same_factors-true [] (g ∷ gs) e = absurd (cc)
-same_factors-true (f ∷ fs) [] e = absurd (cc)
-same_factors-true (f ∷ fs) (g ∷ gs) e =
-    let both = and_parts (same_factor f g) (same_factors fs gs) e in
-    ap₂ (λ (x : Factor) (xs : List Factor). x ∷ xs) (same_factor-true f g both.0) (same_factors-true fs gs both.1)
-
-same_term-true : (t u : Term) → same_term t u ≡ true → t ≡ u
-same_term-true t u e =
-    let both = and_parts (beq t.minus u.minus) (same_factors t.factors u.factors) e in
-    ap₂ made (beq-true t.minus u.minus both.0) (same_factors-true t.factors u.factors both.1)
+pub variables : (sizes dims vars : List ℕ) → variables_fit sizes dims vars ≡ true → Variables sizes dims vars
+variables sizes [] [] h = record { count = refl; dims_are = refl; in_range = λ v e. absurd (cc) }
+variables sizes [] (v ∷ vars) h = absurd (cc)
+variables sizes (d ∷ dims) [] h = absurd (cc)
+variables sizes (d ∷ dims) (v ∷ vars) h =
+    let a = and_parts (nat_lt v (length sizes)) (slice_index sizes v == d && variables_fit sizes dims vars) h in
+    let b = and_parts (slice_index sizes v == d) (variables_fit sizes dims vars) a.1 in
+    let r : Variables sizes dims vars = variables sizes dims vars b.1 in
+    let here : slice_index sizes v ≡ d = eqb-true (slice_index sizes v) d b.0 in
+    let there : map (slice_index sizes) vars ≡ dims = r.dims_are in
+    record { count = omega (arith, r.count); dims_are = cc; in_range = in_range (ltb-true v (length sizes) a.0) r.in_range }
   where
-    made : Bool → List Factor → Term
-    made m fs = record { minus = m; factors = fs }
+    in_range : v < length sizes → ((w : ℕ) → is_in w vars ≡ true → w < length sizes) → (w : ℕ) → is_in w (v ∷ vars) ≡ true → w < length sizes
+    in_range l r w e = by_case (or_cases (eqb w v) (is_in w vars) e)
+      where
+        by_case : (eqb w v ≡ true) ⊎ (is_in w vars ≡ true) → w < length sizes
+        by_case (inl k) = let same : w ≡ v = eqb-true w v k in omega (arith, same, l)
+        by_case (inr k) = r w k
 
-pub same_terms-true : (ts us : List Term) → same_terms ts us ≡ true → ts ≡ us
-same_terms-true [] [] e = refl
-same_terms-true [] (u ∷ us) e = absurd (cc)
-same_terms-true (t ∷ ts) [] e = absurd (cc)
-same_terms-true (t ∷ ts) (u ∷ us) e =
-    let both = and_parts (same_term t u) (same_terms ts us) e in
-    ap₂ (λ (x : Term) (xs : List Term). x ∷ xs) (same_term-true t u both.0) (same_terms-true ts us both.1)
+pub record AccessFits (sizes vars : List ℕ) (t : Tensor) : Type 0 where
+  pub variables : Variables sizes t.dims vars
+  pub differ : distinct vars ≡ true
+  pub ascends : ascending (items_at vars t.order) ≡ true
 
--- ---- the parts
+pub access-parts : (sizes vars : List ℕ) (t : Tensor) → access_fits sizes vars t ≡ true → AccessFits sizes vars t
+access-parts sizes vars t h =
+    let fit = and_parts (variables_fit sizes t.dims vars) _ h in
+    let differ = and_parts (distinct vars) _ fit.1 in
+    record { variables = variables sizes t.dims vars fit.0; differ = differ.0; ascends = differ.1 }
+
+-- ---- a term
+
+pub record TermParts (tensors : List Tensor) (sizes left : List ℕ) (t : Term) : Type 0 where
+  pub some : 1 ≤ length t.factors
+  pub few : length t.factors ≤ 8
+  pub fit : list_all (factor_fits tensors sizes) t.factors ≡ true
+  pub has : list_any is_access t.factors ≡ true
+  pub complete : list_all (term_has t) left ≡ true
+  pub reduce : list_all (factor_reduces left) t.factors ≡ true
+
+pub term-parts : (tensors : List Tensor) (sizes left : List ℕ) (t : Term) → term_fits tensors sizes left t ≡ true → TermParts tensors sizes left t
+term-parts tensors sizes left t h =
+    let some = and_parts (nat_le 1 (length t.factors)) _ h in
+    let few = and_parts (nat_le (length t.factors) FACTORS_MOST) _ some.1 in
+    let fit = and_parts (list_all (factor_fits tensors sizes) t.factors) _ few.1 in
+    let has = and_parts (list_any is_access t.factors) _ fit.1 in
+    let complete = and_parts (list_all (term_has t) left) _ has.1 in
+    record { some = leb-true _ _ some.0; few = leb-true _ _ few.0; fit = fit.0; has = has.0; complete = complete.0; reduce = complete.1 }
+
+-- ---- a program
 
 -- what is known of a program that fits together by its terms
 pub record FitParts (p : Program) : Type 0 where

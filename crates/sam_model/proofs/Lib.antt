@@ -6,6 +6,7 @@ mod WorkedListing
 mod WorkedScopes
 pub mod AcceptedLemmas
 pub mod AcceptedPrograms
+pub mod EqualTerms
 pub mod Lists
 pub mod Moduli
 pub mod Orders
