@@ -17,7 +17,7 @@ use Rattle.sam_model.specs.Expressions.{Tuple, with_at, Values, sum_for, sum_ove
 use Rattle.sam_model.proofs.Lists.{or-false, not-true, Each-append, Each-map, Each-weaker}
 use Rattle.sam_model.proofs.Orders.{is_in-filter}
 use Rattle.sam_model.specs.Scopes.{bound_vars, used_vars}
-use Rattle.expand.proofs.Laws.{AreLawful, sum-same, mul-none, mul-one, add-mul, sum-added, sum-none, sum-turned, turned_times, turned-mul, turned-both}
+use Rattle.expand.proofs.ValueLaws.{AreLawful, sum-same, mul-none, mul-one, add-mul, sum-added, sum-none, sum-turned, turned_times, turned-mul, turned-both}
 use Rattle.expand.proofs.Over.{for-same, over-same, over-append, over-free, over-scaled}
 use Rattle.expand.proofs.Counted.{Counted, factors_have, counted_turned, counted_joined, counted_summed, counted, counted_over, counted_sign, counted_top}
 use Rattle.expand.proofs.Factors.{factors_value, factors-free, factors-append}

@@ -9,7 +9,7 @@ use Rattle.sam_model.specs.Lists.{is_in}
 use Rattle.sam_model.specs.Denote.{has_var}
 use Rattle.sam_model.specs.Expressions.{Tuple, with_at, Values}
 use Rattle.sam_model.proofs.Orders.{number_equality}
-use Rattle.expand.proofs.Laws.{AreLawful}
+use Rattle.expand.proofs.ValueLaws.{AreLawful}
 use Rattle.expand.proofs.Over.{IsFree}
 use Rattle.expand.proofs.Counted.{factors_have}
 

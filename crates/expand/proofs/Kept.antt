@@ -21,7 +21,7 @@ use Rattle.sam_model.proofs.Moduli.{mul-mod-mod, negative, total-mod}
 use Rattle.sam_model.proofs.Orders.{list_all-member}
 use Rattle.sam_model.specs.Scopes.{used_vars, top_fits}
 use Rattle.expand.specs.Meaning.{FitTogether, KeepsMeaning}
-use Rattle.expand.proofs.Laws.{AreLawful, turned_times}
+use Rattle.expand.proofs.ValueLaws.{AreLawful, turned_times}
 use Rattle.expand.proofs.Counted.{Counted, factors_have, counted_top, is_odd, as_term, as-expanded_tops}
 use Rattle.expand.proofs.Factors.{factors_value}
 use Rattle.expand.proofs.Tuples.{gathered, gathered-same}

@@ -6,7 +6,7 @@ use Rattle.std.proofs.Math.Nat.{mul_comm}
 use Rattle.std.proofs.lemmas.Bool.{and_parts, leb-true}
 use Rattle.sam_model.specs.Expressions.{sum_first, number_values, presence_values}
 use Rattle.sam_model.proofs.Lists.{or-false}
-use Rattle.expand.proofs.Laws.{AreLawful}
+use Rattle.expand.proofs.ValueLaws.{AreLawful}
 
 number_constant : (n a : ℕ) → sum_first number_values n (λ v. a) ≡ a * n
 number_constant zero a = omega arith

@@ -12,9 +12,7 @@ use Rattle.sam_model.specs.declared.program.Term.{Term}
 use Rattle.sam_model.specs.Trees.{ExprTree, Access, Literal, Times, Plus, Minus, Negate, Sum, TopTree}
 use Rattle.sam_model.specs.Accepted.{term_has}
 use Rattle.sam_model.specs.Expressions.{turned_term, joined_term, summed_term, expanded, summed_over, with_sign, expanded_tops}
-use Rattle.expand.specs.declared.faults.ExpandFault.{ExpandFault}
-use Rattle.expand.specs.declared.faults.ExpandFault.TheVariants.{Terms, Factors, OutOfMemory}
-use Rattle.expand.specs.Counting.{term_count, terms_count, is_long, have_long, Refused}
+use Rattle.expand.specs.Counting.{term_count, terms_count, is_long, have_long}
 
 -- ---- how many
 
@@ -173,9 +171,3 @@ many-tops sizes tops r e h = let l = length-expanded_tops sizes tops in omega (a
 
 pub few-tops : (sizes : List ℕ) (tops : List TopTree) (r : ℕ) → r ≡ min (terms_count tops) 17 → r ≤ 16 → length (expanded_tops sizes tops) ≤ 16
 few-tops sizes tops r e h = let l = length-expanded_tops sizes tops in omega (arith, e, h, l)
-
-pub refused-by : (terms : List Term) (fault : ExpandFault) → length terms ≤ 16 → (fault ≡ Terms → ⊥) → (fault ≡ Factors → have_long terms ≡ true)
-    → Refused terms fault
-refused-by terms Terms few never long = absurd (never refl)
-refused-by terms Factors few never long = (few, long refl)
-refused-by terms OutOfMemory few never long = tt

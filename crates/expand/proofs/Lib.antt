@@ -1,5 +1,7 @@
 mod Worked
-pub mod Laws
+pub mod AcceptedTerms
+pub mod Equal
+pub mod ValueLaws
 pub mod Over
 pub mod Counted
 pub mod Factors

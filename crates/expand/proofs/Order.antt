@@ -8,7 +8,7 @@ use Rattle.sam_model.specs.Accepted.{distinct}
 use Rattle.sam_model.specs.Expressions.{Tuple, Values, sum_for, sum_over}
 use Rattle.sam_model.proofs.Lists.{and-false, and-true}
 use Rattle.sam_model.proofs.Orders.{number_equality, is_in-filter}
-use Rattle.expand.proofs.Laws.{AreLawful}
+use Rattle.expand.proofs.ValueLaws.{AreLawful}
 use Rattle.expand.proofs.Over.{over-swapped}
 
 pub distinct-filter : (test : ℕ → Bool) (ks : List ℕ) → distinct ks ≡ true → distinct (filter test ks) ≡ true

@@ -5,7 +5,7 @@ use Rattle.std.proofs.lemmas.Bool.{or_left, or_right, eqb-true, eq-eqb}
 use Rattle.std.proofs.lemmas.Bool.Decides.{nat_tests}
 use Rattle.sam_model.specs.Lists.{is_in}
 use Rattle.sam_model.specs.Expressions.{Tuple, with_at, Values, sum_first, sum_for, sum_over}
-use Rattle.expand.proofs.Laws.{AreLawful, sum-same, sum-scaled, sum-turned, exchanged, turned_times}
+use Rattle.expand.proofs.ValueLaws.{AreLawful, sum-same, sum-scaled, sum-turned, exchanged, turned_times}
 
 -- tuples with the same numbers are equal
 pub same-tuple : (s u : Tuple) → ((v : ℕ) → s v ≡ u v) → s ≡ u

@@ -11,7 +11,7 @@ use Rattle.sam_model.specs.Expressions.{Tuple, Values, negative_if, sum_over, ex
 use Rattle.sam_model.proofs.Lists.{same-test, Each-range}
 use Rattle.sam_model.proofs.Orders.{is_in-filter, is_in-range, Rises-range}
 use Rattle.sam_model.specs.Scopes.{bound_vars, used_vars, implied_of}
-use Rattle.expand.proofs.Laws.{AreLawful, turned_times}
+use Rattle.expand.proofs.ValueLaws.{AreLawful, turned_times}
 use Rattle.expand.proofs.Over.{over-same}
 use Rattle.expand.proofs.Counted.{Counted, factors_have, counted, counted_over, counted_top}
 use Rattle.expand.proofs.Factors.{factors_value}

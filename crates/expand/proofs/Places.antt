@@ -13,7 +13,7 @@ use Rattle.sam_model.specs.Expressions.{Values, at_left}
 use Rattle.sam_model.proofs.Lists.{filter-ext}
 use Rattle.sam_model.proofs.Orders.{is_in-items, is_in-tested, is_below, filter-members, rises, coordinate-map}
 use Rattle.sam_model.specs.Scopes.{are_in_range}
-use Rattle.expand.proofs.Laws.{AreLawful, turned_times}
+use Rattle.expand.proofs.ValueLaws.{AreLawful, turned_times}
 use Rattle.expand.proofs.Counted.{Counted, factors_have}
 use Rattle.expand.proofs.Factors.{factors_value, factors-looks}
 use Rattle.expand.proofs.Tuples.{gathered, gathered-tuples, loop_of}

@@ -9,7 +9,7 @@ use Rattle.sam_model.specs.Accepted.{distinct}
 use Rattle.sam_model.specs.Denote.{Loop, fill}
 use Rattle.sam_model.specs.Expressions.{Tuple, with_at, Values, sum_first, sum_for, sum_over}
 use Rattle.sam_model.proofs.Orders.{is_in-filter}
-use Rattle.expand.proofs.Laws.{AreLawful, sum-same}
+use Rattle.expand.proofs.ValueLaws.{AreLawful, sum-same}
 use Rattle.expand.proofs.Over.{with_at-own, over-summed}
 
 module _ {R : Type 0} (o : Values R) where

@@ -1,7 +1,7 @@
 //! Why a statement isn't expanded.
 
 ghost use Rattle.std.specs.Prelude.{◌≡◌};
-ghost use Rattle.expand.specs.declared.faults.ExpandFault.TheVariants.{OutOfMemory};
+ghost use Rattle.expand.specs.declared.faults.TermFault.TheVariants.{OutOfMemory};
 
 use std::alloc::{AllocError, AllocFailed};
 use thiserror::Error;
@@ -19,18 +19,26 @@ pub enum ExpandFault {
     OutOfMemory,
 }
 
-impl From<AllocError> for ExpandFault {
+/// Why terms aren't made.
+#[derive(Debug, Drop)]
+pub enum TermFault {
+    /// One has more than 8 factors.
+    Long,
+    OutOfMemory,
+}
+
+impl From<AllocError> for TermFault {
     ghost from_gives = { λ _ fault. fault ≡ OutOfMemory };
 
-    fn from(_e: AllocError) -> ExpandFault {
-        ExpandFault::OutOfMemory
+    fn from(_e: AllocError) -> TermFault {
+        TermFault::OutOfMemory
     }
 }
 
-impl<T: Drop> From<AllocFailed<T>> for ExpandFault {
+impl<T: Drop> From<AllocFailed<T>> for TermFault {
     ghost from_gives = { λ _ fault. fault ≡ OutOfMemory };
 
-    fn from(_e: AllocFailed<T>) -> ExpandFault {
-        ExpandFault::OutOfMemory
+    fn from(_e: AllocFailed<T>) -> TermFault {
+        TermFault::OutOfMemory
     }
 }

@@ -3,9 +3,16 @@
 
 mod copies;
 mod count;
+mod equality;
 mod faults;
+mod laws;
+mod programs;
+mod scopes;
 mod statements;
 mod terms;
 
 pub use faults::ExpandFault;
+pub use laws::{products_stay, terms_denote};
+pub use programs::accepted;
+pub use scopes::implied_vars;
 pub use statements::expand;

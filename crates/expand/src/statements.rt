@@ -6,7 +6,7 @@ ghost use Rattle.expand.specs.Counting.{IsShort, Refused};
 ghost use Rattle.expand.specs.Meaning.{KeepsMeaning};
 
 use crate::count::terms_count;
-use crate::faults::ExpandFault;
+use crate::faults::{ExpandFault, TermFault};
 use crate::terms::statement_terms;
 use sam_base::{Items, Nums, TERMS_MOST};
 use sam_model::{Term, Top};
@@ -29,6 +29,7 @@ pub fn expand(alloc: Global, tops: &Items<Top>, sizes: &Nums) -> Result<Items<Te
     }
     match statement_terms(alloc, tops.as_slice(), sizes.as_slice()) {
         Ok(terms) => Ok(Items::from_vec(terms)),
-        Err(fault) => Err(fault),
+        Err(TermFault::Long) => Err(ExpandFault::Factors),
+        Err(TermFault::OutOfMemory) => Err(ExpandFault::OutOfMemory),
     }
 }

@@ -1,44 +1,17 @@
 //! The terms of expressions.
 
-ghost use Rattle.std.specs.Prelude.{◌≡◌, ◌<◌, ◌≤◌, ℕ, IsOk, [], ◌∷◌, ◌++◌, length, slice_index, true, false, IfOk, OnOk, IsErrOf};
+ghost use Rattle.std.specs.Prelude.{◌≡◌, ◌<◌, ◌≤◌, ℕ, IsOk, [], ◌∷◌, ◌++◌, length, true, false, IfOk, OnOk, IsErrOf};
 ghost use Rattle.std.specs.List.{flat_map};
 ghost use mathlib.Core.List.{map};
-ghost use Rattle.sam_model.specs.Denote.{has_var};
-ghost use Rattle.sam_model.specs.Accepted.{term_has};
 ghost use Rattle.sam_model.specs.Trees.{tree_of};
 ghost use Rattle.sam_model.specs.Expressions.{turned_term, joined_term, summed_term, expanded, summed_over, with_sign, expanded_tops};
 ghost use Rattle.expand.specs.Counting.{is_long, have_long, top_terms};
 
 use crate::copies::{append_factors, copied_vars};
-use crate::faults::ExpandFault;
+use crate::faults::TermFault;
 use sam_base::{FACTORS_MOST, Items, Nums};
-use sam_model::{Expr, Factor, Term, Top};
+use sam_model::{Expr, Factor, Term, Top, item_at, term_has};
 use std::alloc::{AllocError, Global};
-
-fn has_var(factor: &Factor, var: u64) -> bool
-    ensures { result ≡ has_var var factor.now }
-{
-    match factor {
-        Factor::Access { vars, .. } => vars.as_slice().iter().any(|v| var == *v),
-        Factor::Literal(_) => false,
-    }
-}
-
-/// Whether an access of the term has a variable.
-fn term_has(term: &Term, var: u64) -> bool
-    ensures { result ≡ term_has term.now var }
-{
-    term.factors
-        .as_slice()
-        .iter()
-        .any(|factor| has_var(factor, var))
-}
-
-fn size_at(sizes: &[u64], var: u64) -> u64
-    ensures { result ≡ slice_index sizes.now var }
-{
-    sizes.get(var as usize).copied().unwrap_or(0)
-}
 
 /// The positive term of a single factor.
 fn single(alloc: Global, factor: Factor) -> Result<Vec<Term>, AllocError>
@@ -55,16 +28,15 @@ fn single(alloc: Global, factor: Factor) -> Result<Vec<Term>, AllocError>
 }
 
 /// The product of two terms.
-fn joined(alloc: Global, left: &Term, right: &Term) -> Result<Term, ExpandFault>
+fn joined(alloc: Global, left: &Term, right: &Term) -> Result<Term, TermFault>
     requires left { is_long left.now ≡ false }
     requires right { is_long right.now ≡ false }
     ensures made { IfOk result (λ term. term ≡ joined_term left.now right.now) }
     ensures short { IsOk result → is_long (joined_term left.now right.now) ≡ false }
-    ensures long { IsErrOf result ExpandFault.Factors → is_long (joined_term left.now right.now) ≡ true }
-    ensures never { IsErrOf result ExpandFault.Terms → ⊥ }
+    ensures long { IsErrOf result TermFault.Long → is_long (joined_term left.now right.now) ≡ true }
 {
     if FACTORS_MOST < left.factors.len() + right.factors.len() {
-        return Err(ExpandFault::Factors);
+        return Err(TermFault::Long);
     }
     let mut factors = Items::new(alloc);
     append_factors(alloc, &mut factors, left.factors.as_slice())?;
@@ -81,13 +53,12 @@ fn append_row(
     left: &Term,
     rights: &[Term],
     terms: &mut Vec<Term>,
-) -> Result<(), ExpandFault>
+) -> Result<(), TermFault>
     requires left { is_long left.now ≡ false }
     requires rights { have_long rights.now ≡ false }
     ensures made { OnOk result (terms.new.items ≡ terms.old.items ++ map (joined_term left.now) rights.now) }
     ensures short { IsOk result → have_long (map (joined_term left.now) rights.now) ≡ false }
-    ensures long { IsErrOf result ExpandFault.Factors → have_long (map (joined_term left.now) rights.now) ≡ true }
-    ensures never { IsErrOf result ExpandFault.Terms → ⊥ }
+    ensures long { IsErrOf result TermFault.Long → have_long (map (joined_term left.now) rights.now) ≡ true }
 {
     match rights {
         [] => Ok(()),
@@ -104,13 +75,12 @@ fn append_products(
     lefts: &[Term],
     rights: &[Term],
     terms: &mut Vec<Term>,
-) -> Result<(), ExpandFault>
+) -> Result<(), TermFault>
     requires lefts { have_long lefts.now ≡ false }
     requires rights { have_long rights.now ≡ false }
     ensures made { OnOk result (terms.new.items ≡ terms.old.items ++ flat_map (λ t. map (joined_term t) rights.now) lefts.now) }
     ensures short { IsOk result → have_long (flat_map (λ t. map (joined_term t) rights.now) lefts.now) ≡ false }
-    ensures long { IsErrOf result ExpandFault.Factors → have_long (flat_map (λ t. map (joined_term t) rights.now) lefts.now) ≡ true }
-    ensures never { IsErrOf result ExpandFault.Terms → ⊥ }
+    ensures long { IsErrOf result TermFault.Long → have_long (flat_map (λ t. map (joined_term t) rights.now) lefts.now) ≡ true }
 {
     match lefts {
         [] => Ok(()),
@@ -132,30 +102,28 @@ fn turned(mut terms: Vec<Term>) -> Vec<Term>
 }
 
 /// A term summed over a variable: where no access has it, there is one more literal, the size.
-fn sum_term(term: &mut Term, var: u64, sizes: &[u64]) -> Result<(), ExpandFault>
+fn sum_term(term: &mut Term, var: u64, sizes: &[u64]) -> Result<(), TermFault>
     requires short { is_long term.old ≡ false }
     ensures made { OnOk result (term.new ≡ summed_term sizes.now var term.old) }
     ensures short { IsOk result → is_long (summed_term sizes.now var term.old) ≡ false }
-    ensures long { IsErrOf result ExpandFault.Factors → is_long (summed_term sizes.now var term.old) ≡ true }
-    ensures never { IsErrOf result ExpandFault.Terms → ⊥ }
+    ensures long { IsErrOf result TermFault.Long → is_long (summed_term sizes.now var term.old) ≡ true }
 {
     if term_has(term, var) {
         return Ok(());
     }
     if FACTORS_MOST <= term.factors.len() {
-        return Err(ExpandFault::Factors);
+        return Err(TermFault::Long);
     }
-    term.factors.push(Factor::Literal(size_at(sizes, var)))?;
+    term.factors.push(Factor::Literal(item_at(sizes, var)))?;
     Ok(())
 }
 
 /// The terms summed over a variable.
-fn summed(mut terms: Vec<Term>, var: u64, sizes: &[u64]) -> Result<Vec<Term>, ExpandFault>
+fn summed(mut terms: Vec<Term>, var: u64, sizes: &[u64]) -> Result<Vec<Term>, TermFault>
     requires short { have_long terms.items ≡ false }
     ensures made { IfOk result (λ made. made.items ≡ map (summed_term sizes.now var) terms.items) }
     ensures short { IsOk result → have_long (map (summed_term sizes.now var) terms.items) ≡ false }
-    ensures long { IsErrOf result ExpandFault.Factors → have_long (map (summed_term sizes.now var) terms.items) ≡ true }
-    ensures never { IsErrOf result ExpandFault.Terms → ⊥ }
+    ensures long { IsErrOf result TermFault.Long → have_long (map (summed_term sizes.now var) terms.items) ≡ true }
 {
     for term in terms.iter_mut() {
         sum_term(term, var, sizes)?;
@@ -164,13 +132,12 @@ fn summed(mut terms: Vec<Term>, var: u64, sizes: &[u64]) -> Result<Vec<Term>, Ex
 }
 
 /// The terms of a product, from those of its sides.
-fn products(alloc: Global, lefts: Vec<Term>, rights: Vec<Term>) -> Result<Vec<Term>, ExpandFault>
+fn products(alloc: Global, lefts: Vec<Term>, rights: Vec<Term>) -> Result<Vec<Term>, TermFault>
     requires lefts { have_long lefts.items ≡ false }
     requires rights { have_long rights.items ≡ false }
     ensures made { IfOk result (λ terms. terms.items ≡ flat_map (λ t. map (joined_term t) rights.items) lefts.items) }
     ensures short { IsOk result → have_long (flat_map (λ t. map (joined_term t) rights.items) lefts.items) ≡ false }
-    ensures long { IsErrOf result ExpandFault.Factors → have_long (flat_map (λ t. map (joined_term t) rights.items) lefts.items) ≡ true }
-    ensures never { IsErrOf result ExpandFault.Terms → ⊥ }
+    ensures long { IsErrOf result TermFault.Long → have_long (flat_map (λ t. map (joined_term t) rights.items) lefts.items) ≡ true }
 {
     let mut terms = Vec::new(alloc);
     append_products(alloc, lefts.as_slice(), rights.as_slice(), &mut terms)?;
@@ -186,11 +153,10 @@ fn both(mut terms: Vec<Term>, mut more: Vec<Term>) -> Result<Vec<Term>, AllocErr
 }
 
 /// The terms of an expression.
-fn terms_of(alloc: Global, e: &Expr, sizes: &[u64]) -> Result<Vec<Term>, ExpandFault>
+fn terms_of(alloc: Global, e: &Expr, sizes: &[u64]) -> Result<Vec<Term>, TermFault>
     ensures made { IfOk result (λ terms. terms.items ≡ expanded sizes.now (tree_of e.now)) }
     ensures short { IsOk result → have_long (expanded sizes.now (tree_of e.now)) ≡ false }
-    ensures long { IsErrOf result ExpandFault.Factors → have_long (expanded sizes.now (tree_of e.now)) ≡ true }
-    ensures never { IsErrOf result ExpandFault.Terms → ⊥ }
+    ensures long { IsErrOf result TermFault.Long → have_long (expanded sizes.now (tree_of e.now)) ≡ true }
 {
     match e {
         Expr::Access { tensor, vars } => {
@@ -222,12 +188,11 @@ fn terms_of(alloc: Global, e: &Expr, sizes: &[u64]) -> Result<Vec<Term>, ExpandF
 }
 
 /// The terms summed over several variables, of which the first is innermost.
-fn summed_over(terms: Vec<Term>, vars: &[u64], sizes: &[u64]) -> Result<Vec<Term>, ExpandFault>
+fn summed_over(terms: Vec<Term>, vars: &[u64], sizes: &[u64]) -> Result<Vec<Term>, TermFault>
     requires short { have_long terms.items ≡ false }
     ensures made { IfOk result (λ made. made.items ≡ summed_over sizes.now vars.now terms.items) }
     ensures short { IsOk result → have_long (summed_over sizes.now vars.now terms.items) ≡ false }
-    ensures long { IsErrOf result ExpandFault.Factors → have_long (summed_over sizes.now vars.now terms.items) ≡ true }
-    ensures never { IsErrOf result ExpandFault.Terms → ⊥ }
+    ensures long { IsErrOf result TermFault.Long → have_long (summed_over sizes.now vars.now terms.items) ≡ true }
 {
     match vars {
         [] => Ok(terms),
@@ -236,11 +201,10 @@ fn summed_over(terms: Vec<Term>, vars: &[u64], sizes: &[u64]) -> Result<Vec<Term
 }
 
 /// The terms of a top-level term.
-fn top_terms(alloc: Global, top: &Top, sizes: &[u64]) -> Result<Vec<Term>, ExpandFault>
+fn top_terms(alloc: Global, top: &Top, sizes: &[u64]) -> Result<Vec<Term>, TermFault>
     ensures made { IfOk result (λ terms. terms.items ≡ top_terms sizes.now top.now) }
     ensures short { IsOk result → have_long (top_terms sizes.now top.now) ≡ false }
-    ensures long { IsErrOf result ExpandFault.Factors → have_long (top_terms sizes.now top.now) ≡ true }
-    ensures never { IsErrOf result ExpandFault.Terms → ⊥ }
+    ensures long { IsErrOf result TermFault.Long → have_long (top_terms sizes.now top.now) ≡ true }
 {
     let terms = terms_of(alloc, &top.body, sizes)?;
     let terms = summed_over(terms, top.implied.as_slice(), sizes)?;
@@ -248,11 +212,10 @@ fn top_terms(alloc: Global, top: &Top, sizes: &[u64]) -> Result<Vec<Term>, Expan
 }
 
 /// The terms of a statement, of which none is too long.
-pub fn statement_terms(alloc: Global, tops: &[Top], sizes: &[u64]) -> Result<Vec<Term>, ExpandFault>
+pub fn statement_terms(alloc: Global, tops: &[Top], sizes: &[u64]) -> Result<Vec<Term>, TermFault>
     ensures made { IfOk result (λ terms. terms.items ≡ expanded_tops sizes.now tops.now) }
     ensures short { IsOk result → have_long (expanded_tops sizes.now tops.now) ≡ false }
-    ensures long { IsErrOf result ExpandFault.Factors → have_long (expanded_tops sizes.now tops.now) ≡ true }
-    ensures never { IsErrOf result ExpandFault.Terms → ⊥ }
+    ensures long { IsErrOf result TermFault.Long → have_long (expanded_tops sizes.now tops.now) ≡ true }
 {
     match tops {
         [] => Ok(Vec::new(alloc)),

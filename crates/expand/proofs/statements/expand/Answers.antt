@@ -1,7 +1,7 @@
 use Rattle.std.proofs.Common.{rules, arith, ◌≡◌, ◌≤◌, true, false, min, length, ◌∙◌, sym, subst}
 use Rattle.sam_model.specs.Expressions.{expanded_tops}
 use Rattle.expand.specs.Counting.{terms_count, have_long, IsShort}
-use Rattle.expand.proofs.Lengths.{many-tops, few-tops, refused-by}
+use Rattle.expand.proofs.Lengths.{many-tops, few-tops}
 use Rattle.expand.proofs.Kept.{keeps-meaning}
 use Rattle.expand.proofs.statements.expand.Goals as goal
 
@@ -24,10 +24,10 @@ returns-in-Ok-clause-short c =
     let made : c.from_vec.result ≡ expanded_tops c.args.sizes.now c.args.tops.now = search rules in
     subst IsShort (sym made) (record { few = few; short = short })
 
-pub returns-in-Err-clause-refused : goal.returns-in-Err-clause-refused
-returns-in-Err-clause-refused c =
+pub returns-in-Err-Long-clause-refused : goal.returns-in-Err-Long-clause-refused
+returns-in-Err-Long-clause-refused c =
     let counted : c.terms_count.result ≡ min (terms_count c.args.tops.now) 17 = cc in
     let few : length (expanded_tops c.args.sizes.now c.args.tops.now) ≤ 16 =
     few-tops c.args.sizes.now c.args.tops.now c.terms_count.result counted (omega (arith, c.if-terms_count-gt-TERMS_MOST.false)) in
-    refused-by (expanded_tops c.args.sizes.now c.args.tops.now) c.in-Err.fault few (λ e. search rules)
-    (λ e. let long : have_long (expanded_tops c.args.sizes.now c.args.tops.now) ≡ true = search rules in long)
+    let long : have_long (expanded_tops c.args.sizes.now c.args.tops.now) ≡ true = search rules in
+    (few, long)

@@ -1,0 +1,26 @@
+-- What the top-level terms of an accepted program say of its terms.
+use Rattle.std.specs.Prelude.{◌≡◌, ℕ, true, List, length}
+use Rattle.std.specs.List.{list_all}
+use mathlib.Core.List.{map}
+use Rattle.sam_model.specs.declared.tensors.Entries.{Entries}
+use Rattle.sam_model.specs.declared.program.Program.{Program}
+use Rattle.sam_model.specs.Denote.{den, pat}
+use Rattle.sam_model.specs.ResultText.{result_text}
+use Rattle.sam_model.specs.Program.{accepted}
+use Rattle.sam_model.specs.Statement.{denoted_at, found_at, statement_text}
+use Rattle.expand.specs.Plain.{is_product, term_of}
+
+-- The terms denote what the statement denotes as it is written, and have in their pattern what is found of it, at all
+-- coordinates of the result.
+abbrev pub TermsDenote : Type 0
+TermsDenote =
+    (p : Program) (es : List Entries) (x : List ℕ) → accepted p ≡ true → length x ≡ length p.left
+    → (den p es x ≡ denoted_at p es x) × (pat p es x ≡ found_at p es x)
+
+-- The text of the result by its terms is that of the statement as it is written.
+abbrev pub TermsTell : Type 0
+TermsTell = (p : Program) (es : List Entries) → accepted p ≡ true → result_text p es ≡ statement_text p es
+
+-- Where the top-level terms are products of accesses and literals, these are the terms.
+abbrev pub ProductsStay : Type 0
+ProductsStay = (p : Program) → accepted p ≡ true → list_all (λ t. is_product t.body) p.tops ≡ true → p.terms ≡ map term_of p.tops
