@@ -14,14 +14,14 @@ use Rattle.sam_model.specs.declared.program.Program.{Program}
 use Rattle.sam_model.specs.Trees.{TopTree}
 use Rattle.sam_model.specs.Lists.{items_at, is_in, tuples, same_list}
 use Rattle.sam_model.specs.Denote.{has_var, den, pat}
-use Rattle.sam_model.specs.Accepted.{distinct, is_order, is_dimension, is_well_formed, is_operand, is_compressed, access_fits, tensor_passes, factor_fits, term_has, terms_have, term_fits, stands}
+use Rattle.sam_model.specs.Accepted.{distinct, is_order, is_dimension, is_well_formed, is_operand, access_fits, tensor_passes, factor_fits, term_has, terms_have, term_fits, stands}
 use Rattle.sam_model.specs.Expressions.{expanded_tops}
 use Rattle.sam_model.specs.ResultText.{listing_text}
 use Rattle.sam_model.specs.Scopes.{are_in_range, used_vars, bound_vars, free_vars, are_apart, implied_of, top_fits}
 use Rattle.sam_model.specs.Program.{accepted}
 use Rattle.sam_model.specs.Statement.{denoted_at, found_at}
 use Rattle.sam_model.proofs.AcceptedPrograms.{FitParts, well-formed, access-parts, term-parts}
-use Rattle.sam_model.proofs.AcceptedPrograms.{accepted-parts, terms-expanded, each-top-fits}
+use Rattle.sam_model.proofs.AcceptedPrograms.{accepted-parts, result-formed, terms-expanded, each-top-fits}
 use Rattle.sam_model.proofs.Lists.{not-true, filter-ext-each, map-ext-each, Each-filter, Each-weaker}
 use Rattle.sam_model.proofs.Orders.{same_list-true}
 use Rattle.sam_model.proofs.Tuples.{tuples-long}
@@ -121,9 +121,6 @@ range_at test a (suc n) (suc i) h l =
     let same : a + suc i ≡ a + 1 + i = omega arith in
     rw same (range_at test (a + 1) n i (and_parts (test a) (list_all test (range_with_len (a + 1) n)) h).1 (omega (arith, l)))
 
-result_formed : (p : Program) → accepted p ≡ true → is_well_formed p.result ≡ true
-result_formed p e = (and_parts (is_well_formed p.result) (list_all is_compressed p.result.formats) (accepted-parts p e).result).0
-
 all_sized : (p : Program) → accepted p ≡ true → list_all (nat_le 1) p.var_sizes ≡ true
 all_sized p e = all_places (nat_le 1) p.var_sizes (λ v l. by_case v (or_cases (is_in v p.left) (terms_have p.terms v) (stood v l)))
   where
@@ -134,7 +131,7 @@ all_sized p e = all_places (nat_le 1) p.var_sizes (λ v l. by_case v (or_cases (
     stood v l = let same : 0 + v ≡ v = omega arith in rw (sym same) (range_at (stands p.left p.terms) 0 (length p.var_sizes) v parts.stood l)
 
     by_case : (v : ℕ) → (is_in v p.left ≡ true) ⊎ (terms_have p.terms v ≡ true) → nat_le 1 (slice_index p.var_sizes v) ≡ true
-    by_case v (inl h) = access_sized p.var_sizes p.left p.result parts.left (result_formed p e) v h
+    by_case v (inl h) = access_sized p.var_sizes p.left p.result parts.left (result-formed p e) v h
     by_case v (inr h) = terms_sized p.var_sizes p.left p.tensors parts.operands v p.terms parts.terms h
 
 -- ---- the law
@@ -155,7 +152,7 @@ fit-together : (p : Program) → accepted p ≡ true → FitTogether p p.tops
 fit-together p e =
     let parts = accepted-parts p e in
     let left = access-parts p.var_sizes p.left p.result parts.left in
-    let formed = well-formed p.result (result_formed p e) in
+    let formed = well-formed p.result (result-formed p e) in
     record {
       sizes = all_sized p e;
       order = ap (λ n. is_order n p.result.order) left.variables.count ∙ formed.order;
@@ -184,7 +181,7 @@ terms-tell p es e =
     same : length (items_at p.result.dims p.result.order) ≡ length p.left
     same =
         let left = access-parts p.var_sizes p.left p.result (accepted-parts p e).left in
-        let order = and_parts (length p.result.order == length p.result.dims) _ (well-formed p.result (result_formed p e)).order in
+        let order = and_parts (length p.result.order == length p.result.dims) _ (well-formed p.result (result-formed p e)).order in
         length-map p.result.order (slice_index p.result.dims) ∙ eqb-true _ _ order.0 ∙ sym left.variables.count
 
     each_long : Each Long all

@@ -9,7 +9,7 @@ use Rattle.sam_model.specs.declared.tensors.Tensor.{Tensor}
 use Rattle.sam_model.specs.declared.program.Term.{Term}
 use Rattle.sam_model.specs.declared.program.Program.{Program}
 use Rattle.sam_model.specs.Lists.{below, items_at, is_in}
-use Rattle.sam_model.specs.Accepted.{distinct, distinct_names, ascending, is_dimension, is_order, is_well_formed, is_operand, is_result}
+use Rattle.sam_model.specs.Accepted.{distinct, distinct_names, ascending, is_dimension, is_order, is_compressed, is_well_formed, is_operand, is_result}
 use Rattle.sam_model.specs.Accepted.{variables_fit, access_fits, factor_fits, is_access, term_has, factor_reduces, term_fits, stands}
 use Rattle.sam_model.specs.Accepted.{is_taken, distinct_tensors, declarations_fit, statement_fits, fits_by_terms}
 use Rattle.sam_model.specs.Expressions.{expanded_tops}
@@ -138,6 +138,9 @@ by-terms p e = (and_parts (fits_by_terms p) (tops_fit p) e).0
 
 pub accepted-parts : (p : Program) → accepted p ≡ true → FitParts p
 accepted-parts p e = fit-parts p (by-terms p e)
+
+pub result-formed : (p : Program) → accepted p ≡ true → is_well_formed p.result ≡ true
+result-formed p e = (and_parts (is_well_formed p.result) (list_all is_compressed p.result.formats) (accepted-parts p e).result).0
 
 tops_parts : (p : Program) → accepted p ≡ true
     → (same_terms p.terms (expanded_tops p.var_sizes p.tops) ≡ true) × (list_all (top_fits (length p.var_sizes) p.left) p.tops ≡ true)
