@@ -14,6 +14,7 @@ pub mod ReadLemmas
 pub mod RowLemmas
 pub mod SegmentLemmas
 pub mod SortLemmas
+pub mod KeyLemmas
 pub mod Steps
 pub mod ValueLemmas
 pub mod Views

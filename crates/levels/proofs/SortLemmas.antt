@@ -1,12 +1,11 @@
 -- Rows in order, and lists with the same entries.
-use Rattle.std.proofs.Common.{◌≡◌, ℕ, zero, suc, ◌+◌, ◌*◌, ◌%◌, ◌^◌, ◌<◌, ◌⊎◌, inl, inr, Bool, true, false, cond, ◌&&◌, ◌||◌, List, [], ◌∷◌, ◌++◌, length, take, get_or, eqb, ltb, refl, ap, sym, subst, ◌∙◌, arith, Ordering}
+use Rattle.std.proofs.Common.{◌≡◌, ℕ, zero, suc, ◌+◌, ◌%◌, ◌^◌, ◌<◌, Bool, true, false, cond, ◌&&◌, ◌||◌, List, [], ◌∷◌, ◌++◌, length, take, get_or, eqb, ltb, refl, ap, sym, subst, ◌∙◌, arith, Ordering}
 use Rattle.std.specs.declared.cmp.Ordering.TheVariants.{Less, Equal, Greater}
 use Rattle.std.specs.Ordering.{is_lt, nat_cmp, ordering_then}
 use Rattle.std.specs.Cmp.Lexicographic.{slice_cmp, lists_total}
 use Rattle.std.specs.Cmp.{nat_cmp_total, nat_cmp_is}
 use Rattle.std.specs.List.Sorted.{IsPermutation, IsSortedByKey}
 use mathlib.Core.List.{map}
-use Rattle.std.proofs.lemmas.Bool.{cases_order}
 use Rattle.std.proofs.lemmas.Bool.Decides.{nat_tests}
 use Rattle.std.proofs.lemmas.List.{map_push, take_more}
 use Rattle.std.proofs.lemmas.List.Sorted.{IsPermutation-append_left, ranks_by, sorted_far, All-permutation, list_any-IsPermutation, sum_by-IsPermutation}
@@ -17,7 +16,7 @@ use Rattle.levels.specs.declared.rows.Row.{Row}
 use Rattle.sam_base.specs.Each.{Each}
 use Rattle.sam_model.proofs.Lists.{Each-mapped, Each-weaker, filter-ext}
 use Rattle.levels.specs.Sorted.{Sorted}
-use Rattle.levels.specs.Rows.{outer, row_entry}
+use Rattle.levels.specs.Rows.{row_entry}
 use Rattle.levels.proofs.Growth.{Each-get}
 use Rattle.levels.proofs.EntryLemmas.{Each-from-places}
 
@@ -57,12 +56,12 @@ not-smaller n x y h = by_case (smaller (take n x) (take n y)) refl
     by_case false e = e
     by_case true e = let t = take-smaller n x y e in cc
 
-Sorted-from-places : {A : Type 0} (R : A → A → Type 0) (d : A) (xs : List A) → ((i j : ℕ) → i < j → j < length xs → R (get_or xs i d) (get_or xs j d)) → Sorted R xs
+pub Sorted-from-places : {A : Type 0} (R : A → A → Type 0) (d : A) (xs : List A) → ((i j : ℕ) → i < j → j < length xs → R (get_or xs i d) (get_or xs j d)) → Sorted R xs
 Sorted-from-places R d [] h = tt
 Sorted-from-places R d (x ∷ xs) h =
     (Each-from-places (R x) d xs (λ n l. h 0 (suc n) (omega arith) (omega arith)), Sorted-from-places R d xs (λ i j l m. h (suc i) (suc j) (omega arith) (omega arith)))
 
-Sorted-map : {A B : Type 0} (R : A → A → Type 0) (S : B → B → Type 0) (f : A → B) → ((x y : A) → R x y → S (f x) (f y)) → (xs : List A) → Sorted R xs → Sorted S (map f xs)
+pub Sorted-map : {A B : Type 0} (R : A → A → Type 0) (S : B → B → Type 0) (f : A → B) → ((x y : A) → R x y → S (f x) (f y)) → (xs : List A) → Sorted R xs → Sorted S (map f xs)
 Sorted-map R S f e [] h = tt
 Sorted-map R S f e (x ∷ xs) h = (Each-mapped (S (f x)) f xs (Each-weaker (R x) (λ y. S (f x) (f y)) (λ y r. e x y r) xs h.0), Sorted-map R S f e xs h.1)
 
@@ -72,37 +71,6 @@ sorted-entries n rows up =
     (λ x y h. not-smaller n y.coordinates x.coordinates (sym (cmp-smaller y.coordinates x.coordinates) ∙ h)) rows
     (Sorted-from-places (λ (x y : Row). is_lt (slice_cmp nat_cmp y.coordinates x.coordinates) ≡ false) record { coordinates = []; value = 0 } rows
     (λ i j l m. sorted_far (λ (x y : Row). is_lt (slice_cmp nat_cmp x.coordinates y.coordinates)) (ranks_by (lists_total nat_cmp_total) (λ (row : Row). row.coordinates)) rows up i j record { coordinates = []; value = 0 } (omega arith) m))
-
--- ---- two coordinates as one number
-
--- numbers that are compared as one are compared one after the other
-as-one : (a b c d : ℕ) (o : Ordering) → b < 2 ^ 32 → d < 2 ^ 32 → (a * 2 ^ 32 + b ≡ c * 2 ^ 32 + d → ⊥)
-    → nat_cmp (a * 2 ^ 32 + b) (c * 2 ^ 32 + d) ≡ ordering_then (nat_cmp a c) (ordering_then (nat_cmp b d) o)
-as-one a b c d o small small' apart = by_case (cases_order a c) (cases_order b d)
-  where
-    decided : (p q r s : Ordering) → p ≡ s → q ≡ s → ordering_then s r ≡ s → p ≡ ordering_then q r
-    decided p q r s e f g = e ∙ sym g ∙ ap (λ k. ordering_then k r) (sym f)
-
-    level : (p q r : Ordering) → q ≡ Equal → p ≡ r → p ≡ ordering_then q r
-    level p q r e f = f ∙ ap (λ k. ordering_then k r) (sym e)
-
-    by_case : (a ≡ c) ⊎ ((a < c) ⊎ (c < a)) → (b ≡ d) ⊎ ((b < d) ⊎ (d < b))
-        → nat_cmp (a * 2 ^ 32 + b) (c * 2 ^ 32 + d) ≡ ordering_then (nat_cmp a c) (ordering_then (nat_cmp b d) o)
-    by_case (inl e) (inl f) = absurd (apart (omega arith))
-    by_case (inl e) (inr (inl f)) =
-        level _ _ _ (sym (nat_cmp_is a c Equal e)) (decided _ _ o Less (sym (nat_cmp_is (a * 2 ^ 32 + b) (c * 2 ^ 32 + d) Less (omega arith))) (sym (nat_cmp_is b d Less f)) refl)
-    by_case (inl e) (inr (inr f)) =
-        level _ _ _ (sym (nat_cmp_is a c Equal e)) (decided _ _ o Greater (sym (nat_cmp_is (a * 2 ^ 32 + b) (c * 2 ^ 32 + d) Greater (omega arith))) (sym (nat_cmp_is b d Greater f)) refl)
-    by_case (inr (inl e)) f = decided _ _ _ Less (sym (nat_cmp_is (a * 2 ^ 32 + b) (c * 2 ^ 32 + d) Less (omega arith))) (sym (nat_cmp_is a c Less e)) refl
-    by_case (inr (inr e)) f = decided _ _ _ Greater (sym (nat_cmp_is (a * 2 ^ 32 + b) (c * 2 ^ 32 + d) Greater (omega arith))) (sym (nat_cmp_is a c Greater e)) refl
-
-pub outer-cmp : (x y : List ℕ) → 1 < length x → 1 < length y → get_or x 1 0 < 2 ^ 32 → get_or y 1 0 < 2 ^ 32 → (outer x ≡ outer y → ⊥)
-    → nat_cmp (outer x) (outer y) ≡ slice_cmp nat_cmp x y
-outer-cmp [] y h k small small' apart = absurd (omega arith)
-outer-cmp (a ∷ []) y h k small small' apart = absurd (omega arith)
-outer-cmp (a ∷ b ∷ x) [] h k small small' apart = absurd (omega arith)
-outer-cmp (a ∷ b ∷ x) (c ∷ []) h k small small' apart = absurd (omega arith)
-outer-cmp (a ∷ b ∷ x) (c ∷ d ∷ y) h k small small' apart = as-one a b c d (slice_cmp nat_cmp x y) small small' apart
 
 -- ---- the same entries in another order
 
@@ -130,14 +98,14 @@ module _ (a : Stored) (entries : List (List ℕ × ℕ)) (same : IsPermutation a
   pub prefixes-same : (k : ℕ) → stored_prefixes a k ≡ stored_prefixes moved k
   prefixes-same k = filter-ext (is_stored a) (is_stored moved) stored-same (tuples (take k a.sizes))
 
--- ---- one row more, wherever it goes
+-- ---- one item more, wherever it goes
 
-pub one-more : (n : ℕ) (entries : List (List ℕ × ℕ)) (k : ℕ) (rows : List Row) (row : Row) (rows' : List Row) → k < length entries
-    → IsPermutation (take k entries) (map (row_entry n) rows) → row_entry n row ≡ get_or entries k ([], 0) → rows' ≡ rows ++ row ∷ []
-    → IsPermutation (take (k + 1) entries) (map (row_entry n) rows')
-one-more n entries k rows row rows' inside same e pushed =
-    let whole : take (k + 1) entries ≡ take k entries ++ row_entry n row ∷ [] = take_more entries k ([], 0) inside ∙ ap (λ (x : List ℕ × ℕ). take k entries ++ x ∷ []) (sym e) in
-    let made : map (row_entry n) rows' ≡ map (row_entry n) rows ++ row_entry n row ∷ [] = ap (map (row_entry n)) pushed ∙ map_push (row_entry n) rows row in
-    subst (λ (es : List (List ℕ × ℕ)). IsPermutation es (map (row_entry n) rows')) (sym whole)
-    (subst (λ (es : List (List ℕ × ℕ)). IsPermutation (take k entries ++ row_entry n row ∷ []) es) (sym made)
-    (IsPermutation-append_left (row_entry n row ∷ []) (take k entries) (map (row_entry n) rows) same))
+pub one-more : {A : Type 0} (f : A → List ℕ × ℕ) (entries : List (List ℕ × ℕ)) (k : ℕ) (xs : List A) (x : A) (xs' : List A) → k < length entries
+    → IsPermutation (take k entries) (map f xs) → f x ≡ get_or entries k ([], 0) → xs' ≡ xs ++ x ∷ []
+    → IsPermutation (take (k + 1) entries) (map f xs')
+one-more f entries k xs x xs' inside same e pushed =
+    let whole : take (k + 1) entries ≡ take k entries ++ f x ∷ [] = take_more entries k ([], 0) inside ∙ ap (λ (y : List ℕ × ℕ). take k entries ++ y ∷ []) (sym e) in
+    let made : map f xs' ≡ map f xs ++ f x ∷ [] = ap (map f) pushed ∙ map_push f xs x in
+    subst (λ (es : List (List ℕ × ℕ)). IsPermutation es (map f xs')) (sym whole)
+    (subst (λ (es : List (List ℕ × ℕ)). IsPermutation (take k entries ++ f x ∷ []) es) (sym made)
+    (IsPermutation-append_left (f x ∷ []) (take k entries) (map f xs) same))

@@ -3,7 +3,7 @@ use Rattle.std.proofs.Common.{◌≡◌, [], ◌∷◌, refl}
 use Rattle.sam_model.specs.declared.tensors.Format.TheVariants.{Dense, Compressed}
 use Rattle.sam_model.specs.Tensors.{Stored, stored_prefixes}
 use Rattle.sam_model.specs.Children.{children_of, values_of, ranked}
-use Rattle.levels.specs.Rows.{outer}
+use Rattle.levels.specs.Keys.{packed}
 
 -- a 2 x 2 tensor with a dense level after a compressed one
 trailing : Stored
@@ -53,6 +53,10 @@ empty-ranked : ranked empty ≡ record { counts = 1 ∷ 2 ∷ 0 ∷ []; children
 unfolding empty
 empty-ranked = refl
 
--- two coordinates as one number
-outer-row : outer (1 ∷ 5 ∷ 7 ∷ []) ≡ 4294967301
-outer-row = refl
+-- coordinates as digits to the bases of their sizes
+packed-row : packed 0 (10 ∷ 10 ∷ 4 ∷ []) (1 ∷ 5 ∷ 3 ∷ []) ≡ 63
+packed-row = refl
+
+-- a row with no level is one number
+packed-none : packed 0 [] [] ≡ 0
+packed-none = refl

@@ -1,5 +1,6 @@
 pub mod Arrays
 pub mod Sorted
+pub mod Keys
 pub mod Matches
 pub mod Pairs
 pub mod Placed

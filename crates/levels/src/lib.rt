@@ -6,6 +6,7 @@ mod build;
 mod compressed;
 mod dense;
 mod faults;
+mod keys;
 mod level;
 mod pairs;
 mod positions;
