@@ -16,3 +16,4 @@ pub mod Kept
 pub mod MapInPlace
 pub mod Lengths
 pub mod Products
+pub mod Accesses

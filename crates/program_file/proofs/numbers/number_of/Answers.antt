@@ -1,5 +1,5 @@
 use Rattle.std.proofs.Common.{◌-◌, arith}
-use Rattle.program_file.proofs.programs.number_of.Goals as goal
+use Rattle.program_file.proofs.numbers.number_of.Goals as goal
 
 pub returns-then-place : goal.returns-then-place
 returns-then-place c = omega (arith, c.place_of_tensor-place.ensures)

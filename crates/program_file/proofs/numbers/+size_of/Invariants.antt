@@ -1,5 +1,5 @@
 use Rattle.std.proofs.Common.{length}
-use Rattle.program_file.proofs.programs.+size_of.Given as goal
+use Rattle.program_file.proofs.numbers.+size_of.Given as goal
 
 abbrev pub decreases-size_of : goal.decreases-size_of
 decreases-size_of l = length l.vars.now
