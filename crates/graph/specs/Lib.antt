@@ -5,6 +5,7 @@ pub mod Standing
 pub mod Laws
 pub mod Order
 pub mod Joined
+pub mod First
 pub mod Placing
 pub mod Assembly
 pub mod Writers

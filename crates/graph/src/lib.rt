@@ -10,7 +10,7 @@ ghost use Rattle.graph.specs.Laws.{StreamsAreGiven, OnlyWholeStreams, CarriedAre
 
 pub use graphs::{Block, Channel, Graph, Kind};
 pub use order::forward_order;
-pub use wiring::well_formed;
+pub use wiring::{misfit_block, stray_channel, well_formed};
 
 /// In a well formed graph the whole stream of each channel is the one that its block gives from its whole inputs.
 pub fn streams_are_given()

@@ -3,6 +3,7 @@
 ghost use Rattle.std.specs.Prelude.{◌≡◌, ◌<◌, ◌^◌, ◌↔◌, ℕ, true, length, IfOk, IsTrue};
 ghost use Rattle.graph.specs.Wiring.{block, channel, NamesInput, NamesOutput, IsReceived, IsSent, WellFormed};
 ghost use Rattle.graph.specs.Joined.{BlockFits, ChannelFits, IsJoined};
+ghost use Rattle.graph.specs.First.{FailsFirst};
 
 use crate::graphs::Graph;
 use crate::order::placed_blocks;
@@ -102,28 +103,39 @@ fn is_sent(g: &Graph, c: usize) -> bool
     port < outs.len() && outs.get(port) == c as u64
 }
 
-/// Whether all blocks fit.
-fn blocks_fit(g: &Graph) -> bool
-    ensures { IsTrue result ↔ ((b : ℕ) → b < length g.now.blocks → BlockFits g.now b) }
+/// The first block that hasn't its kind's numbers of ports, or has a port whose channel is out of range or doesn't name it back.
+///
+/// It takes time in proportion to the blocks and their ports.
+pub fn misfit_block(g: &Graph) -> Option<usize>
+    ensures { FailsFirst (BlockFits g.now) (length g.now.blocks) result }
 {
     for b in 0..g.blocks.len() {
         if !block_fits(g, b) {
-            return false;
+            return Some(b);
         }
     }
-    true
+    None
 }
 
-/// Whether all channels stand at both ports that they name.
-fn channels_fit(g: &Graph) -> bool
-    ensures { IsTrue result ↔ ((c : ℕ) → c < length g.now.channels → ChannelFits g.now c) }
+/// The first channel that isn't listed at one of the two ports that it names.
+///
+/// It takes time in proportion to the channels.
+pub fn stray_channel(g: &Graph) -> Option<usize>
+    ensures { FailsFirst (ChannelFits g.now) (length g.now.channels) result }
 {
     for c in 0..g.channels.len() {
         if !is_received(g, c) || !is_sent(g, c) {
-            return false;
+            return Some(c);
         }
     }
-    true
+    None
+}
+
+/// Whether each block fits, and each channel stands at both ports that it names.
+fn is_joined(g: &Graph) -> bool
+    ensures { IsTrue result ↔ IsJoined g.now }
+{
+    misfit_block(g).is_none() && stray_channel(g).is_none()
 }
 
 /// Whether a graph is well formed: each kind has its number of ports, each port has one channel, which names it back, each
@@ -134,7 +146,7 @@ pub fn well_formed(alloc: Global, g: &Graph) -> Result<bool, AllocError>
     requires { length g.now.blocks < 2 ^ 32 }
     ensures { IfOk result (λ answer. IsTrue answer ↔ WellFormed g.now) }
 {
-    if !blocks_fit(g) || !channels_fit(g) {
+    if !is_joined(g) {
         return Ok(false);
     }
     let placed = placed_blocks(alloc, g)?;

@@ -1,17 +1,13 @@
 use Rattle.std.proofs.Common.{◌≡◌, length, vec_len, arith}
 use Rattle.std.proofs.lemmas.Grind.{common_steps}
 use Rattle.std.proofs.lemmas.Bool.{eqb-true, eq-eqb}
-use Rattle.graph.specs.Joined.{IsJoined}
 use Rattle.graph.specs.Order.{place_in}
 use Rattle.graph.proofs.Formed.{well-formed}
 use Rattle.graph.proofs.wiring.well_formed.Goals as goal
 
 pub returns : goal.returns
 returns c =
-    let joined : IsJoined c.args.g.now = record {
-      blocks = c.blocks_fit.ensures.0 c.if-not-blocks_fit.false;
-      channels = c.channels_fit.ensures.0 c.if-not-channels_fit.false;
-    } in
+    let joined = c.is_joined.ensures.0 c.if-not-is_joined.false in
     let long : vec_len c.in_ok-placed.placed ≡ length c.in_ok-placed.placed.items = grind (arith, common_steps) in (
       λ same.
           let all : c.len.result ≡ c.len-2.result = eqb-true c.len.result c.len-2.result same in
