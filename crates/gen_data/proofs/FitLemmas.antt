@@ -14,7 +14,8 @@ use Rattle.sam_model.specs.declared.tensors.Format.TheVariants.{Dense, Compresse
 use Rattle.sam_model.specs.declared.tensors.Tensor.{Tensor}
 use Rattle.sam_model.specs.declared.tensors.Entries.{Entries}
 use Rattle.sam_model.specs.declared.program.Program.{Program}
-use Rattle.sam_model.specs.Accepted.{accepted, is_dimension, is_well_formed}
+use Rattle.sam_model.specs.Accepted.{is_dimension, is_well_formed}
+use Rattle.sam_model.specs.Program.{accepted}
 use Rattle.sam_model.specs.Lists.{below, items_at, within, tuples, same_list, smaller}
 use Rattle.sam_model.specs.Tensors.{Stored, entry_list, stored_as, stored_prefixes, is_stored}
 use Rattle.sam_model.proofs.Lists.{Each-flat_map, Each-range, Each-weaker, filter-ext-each, filter-never, filter-none-each}

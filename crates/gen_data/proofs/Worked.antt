@@ -1,7 +1,7 @@
 -- The workloads of 1, 2 and 3.
 use Rattle.std.proofs.Common.{◌≡◌, ℕ, true, refl, List, [], ◌∷◌}
 use mathlib.Core.List.{map}
-use Rattle.sam_model.specs.Accepted.{accepted}
+use Rattle.sam_model.specs.Program.{accepted}
 use Rattle.sam_model.specs.Denote.{den, pat}
 use Rattle.sam_model.specs.Tensors.{Stored, stored_as, stored_prefixes, value_at}
 use Rattle.gen_data.specs.declared.matrices.Matrix.{Matrix}

@@ -9,6 +9,8 @@ use Rattle.sam_model.specs.declared.tensors.Entries.{Entries}
 use Rattle.sam_model.specs.declared.program.Factor.TheVariants.{Access}
 use Rattle.sam_model.specs.declared.program.Term.{Term}
 use Rattle.sam_model.specs.declared.program.Program.{Program}
+use Rattle.sam_model.specs.Trees.{TopTree}
+use Rattle.sam_model.specs.Trees as tree
 use Rattle.sam_model.specs.Accepted.{is_well_formed}
 use Rattle.sam_model.specs.Lists.{below, within}
 use Rattle.sam_model.specs.Tensors.{entry_list, stored_as, stored_prefixes}
@@ -25,6 +27,10 @@ square name n = record { name = name; dims = n ∷ n ∷ []; formats = Dense ∷
 abbrev pub elementwise : Term
 elementwise = record { minus = false; factors = Access 0 (0 ∷ 1 ∷ []) ∷ Access 1 (0 ∷ 1 ∷ []) ∷ [] }
 
+-- the same as an expression, where j is implied
+abbrev pub elementwise_top : TopTree
+elementwise_top = record { minus = false; body = tree.Times (tree.Access 0 (0 ∷ 1 ∷ [])) (tree.Access 1 (0 ∷ 1 ∷ [])); implied = 1 ∷ [] }
+
 -- `x(i) = B(i,j) * C(i,j)`, looping over i and then j, with a compressed result
 abbrev pub workload : ℕ → Program
 workload n = record {
@@ -32,6 +38,7 @@ workload n = record {
   result = record { name = codes "x"; dims = n ∷ []; formats = Compressed ∷ []; order = 0 ∷ []; file = [] };
   left = 0 ∷ [];
   terms = elementwise ∷ [];
+  tops = elementwise_top ∷ [];
   var_names = codes "i" ∷ codes "j" ∷ [];
   var_sizes = n ∷ n ∷ [];
 }

@@ -3,7 +3,7 @@
 
 ghost use Rattle.std.specs.Prelude.{◌≡◌, ◌≤◌, ℕ, true, Some, slice_get, IfOk};
 ghost use Rattle.sam_base.specs.declared.TheConstants.{LARGE_MOST};
-ghost use Rattle.sam_model.specs.Accepted.{accepted};
+ghost use Rattle.sam_model.specs.Program.{accepted};
 ghost use Rattle.gen_data.specs.Workload.{workload, workload_entries, MayBeStored};
 
 mod matrices;

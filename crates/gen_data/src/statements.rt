@@ -1,10 +1,11 @@
 //! The program of the workload.
 
-ghost use Rattle.std.specs.Prelude.{◌≡◌, IfOk};
-ghost use Rattle.gen_data.specs.Workload.{square, elementwise, workload};
+ghost use Rattle.std.specs.Prelude.{◌≡◌, [], ◌∷◌, IfOk};
+ghost use Rattle.sam_model.specs.Trees.{Access, tree_of};
+ghost use Rattle.gen_data.specs.Workload.{square, elementwise, elementwise_top, workload};
 
 use sam_base::{Items, Name, Nums};
-use sam_model::{Factor, Format, Program, Tensor, Term};
+use sam_model::{Expr, Factor, Format, Program, Tensor, Term, Top};
 use std::alloc::{AllocError, Global};
 
 /// An operand of n rows and n columns, its rows dense and their columns compressed.
@@ -49,6 +50,27 @@ fn product(alloc: Global) -> Result<Term, AllocError>
     })
 }
 
+fn operand(alloc: Global, tensor: u32) -> Result<Expr, AllocError>
+    ensures { IfOk result (λ operand. tree_of operand ≡ Access tensor (0 ∷ 1 ∷ [])) }
+{
+    Ok(Expr::Access {
+        tensor,
+        vars: Nums::from_vec(vec![in alloc; 0, 1]?),
+    })
+}
+
+fn product_top(alloc: Global) -> Result<Top, AllocError>
+    ensures { IfOk result (λ top. top ≡ elementwise_top) }
+{
+    let left = Box::new(alloc, operand(alloc, 0)?)?;
+    let right = Box::new(alloc, operand(alloc, 1)?)?;
+    Ok(Top {
+        minus: false,
+        body: Expr::Times(left, right),
+        implied: Nums::from_vec(vec![in alloc; 1]?),
+    })
+}
+
 /// The program over matrices of n rows and columns.
 pub fn program(alloc: Global, n: u64) -> Result<Program, AllocError>
     ensures { IfOk result (λ program. program ≡ workload n) }
@@ -62,6 +84,7 @@ pub fn program(alloc: Global, n: u64) -> Result<Program, AllocError>
         result: result(alloc, n)?,
         left: Nums::from_vec(vec![in alloc; 0]?),
         terms: Items::from_vec(vec![in alloc; product(alloc)?]?),
+        tops: Items::from_vec(vec![in alloc; product_top(alloc)?]?),
         var_names: Items::from_vec(vec![in alloc; row, column]?),
         var_sizes: Nums::from_vec(vec![in alloc; n, n]?),
     })
