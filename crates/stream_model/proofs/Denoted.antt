@@ -14,7 +14,8 @@ use Rattle.sam_model.specs.declared.program.Program.{Program}
 use Rattle.sam_model.specs.Lists.{total, is_in}
 use Rattle.sam_model.specs.Tensors.{Stored, is_stored, value_at}
 use Rattle.sam_model.specs.Denote.{loops_of, loop_list, fill, tensor_at, stored_of, access_place, product, stored_at, tuples_of, term_at, signed_terms, den, pat}
-use Rattle.sam_model.specs.Accepted.{term_fits, accepted}
+use Rattle.sam_model.specs.Accepted.{term_fits}
+use Rattle.sam_model.specs.Program.{accepted}
 use Rattle.stream_tokens.specs.Nest.{Leaf}
 use Rattle.stream_tokens.specs.Shapes.{Each}
 use Rattle.stream_tokens.proofs.Algebra.{Each-imp}

@@ -1,5 +1,5 @@
 -- How deep the trees of an accepted program are, and how many loops of the left come after one that is reduced.
-use Rattle.std.specs.Prelude.{◌≡◌, ◌⊎◌, ◌<◌, ◌≤◌, ℕ, zero, suc, ◌+◌, Bool, true, false, cond, ◌&&◌, ◌||◌, ◌==◌, List, [], ◌∷◌, ◌++◌, length, slice_index, nat_le, nat_lt, count_by, refl}
+use Rattle.std.specs.Prelude.{◌≡◌, ◌⊎◌, ◌<◌, ◌≤◌, ℕ, zero, suc, ◌+◌, Bool, true, false, cond, ◌&&◌, ◌||◌, List, [], ◌∷◌, ◌++◌, length, slice_index, nat_le, nat_lt, count_by, refl}
 use Rattle.std.specs.List.{filter, list_any, list_all, range_with_len}
 use mathlib.Core.List.{map}
 use Rattle.std.proofs.Common.{arith, sym, ◌∙◌, ap, subst, inl, inr}
@@ -10,14 +10,16 @@ use Rattle.std.proofs.lemmas.Map.Made.{length-le_from_is_member}
 use Rattle.sam_model.specs.declared.program.Factor.{Factor}
 use Rattle.sam_model.specs.declared.program.Term.{Term}
 use Rattle.sam_model.specs.declared.program.Program.{Program}
-use Rattle.sam_model.specs.Lists.{below, is_in}
+use Rattle.sam_model.specs.Lists.{is_in}
 use Rattle.sam_model.specs.Denote.{vars_of, has_var, loops_of, Loop, loop_list}
-use Rattle.sam_model.specs.Accepted.{is_access, term_has, factor_fits, reduces, factor_reduces, term_fits, access_fits, distinct_names, stands, accepted}
+use Rattle.sam_model.specs.Accepted.{is_access, term_has, factor_fits, reduces, factor_reduces, term_fits}
+use Rattle.sam_model.specs.Program.{accepted}
 use Rattle.stream_tokens.specs.Shapes.{Each}
 use Rattle.stream_model.specs.Trees.{kept_sizes}
 use Rattle.sam_model.proofs.Lists.{filter-range}
 use Rattle.sam_model.proofs.Orders.{number_equality, list_all-member, is_in-filter, Rises, Rises-weaker, Rises-range, rises-distinct, not-above}
-use Rattle.stream_model.proofs.Places.{accepted-statement, kept-sizes-map}
+use Rattle.sam_model.proofs.AcceptedPrograms.{accepted-parts}
+use Rattle.stream_model.proofs.Places.{kept-sizes-map}
 
 -- ---- the number of loops
 
@@ -32,19 +34,7 @@ filter-short test a (suc n) = by_case (test a) (filter-short test (a + 1) n)
     by_case false h = omega (arith, h)
 
 pub accepted-few : (p : Program) → accepted p ≡ true → length p.var_sizes < 9
-accepted-few p h =
-    let a = and_parts (length p.var_names == length p.var_sizes)
-    (nat_le (length p.var_sizes) 8 && (distinct_names p.var_names && (list_all (stands p.left p.terms) (below (length p.var_sizes))
-    && (access_fits p.var_sizes p.left p.result
-    && (nat_le 1 (length p.terms) && (nat_le (length p.terms) 16 && list_all (term_fits p.tensors p.var_sizes p.left) p.terms)))))) (accepted-statement p h)
-    in
-    let b = and_parts (nat_le (length p.var_sizes) 8)
-    (distinct_names p.var_names && (list_all (stands p.left p.terms) (below (length p.var_sizes))
-    && (access_fits p.var_sizes p.left p.result
-    && (nat_le 1 (length p.terms) && (nat_le (length p.terms) 16 && list_all (term_fits p.tensors p.var_sizes p.left) p.terms))))) a.1
-    in
-    let few : length p.var_sizes ≤ 8 = leb-true (length p.var_sizes) 8 b.0 in
-    omega (arith, few)
+accepted-few p h = let few = (accepted-parts p h).few in omega (arith, few)
 
 -- a term has at most eight loops
 pub term-few : (p : Program) (t : Term) → accepted p ≡ true → length (loop_list p t) < 9

@@ -1,24 +1,26 @@
 -- The accesses of an accepted program: their coordinates at a tuple, and the sizes of their loops.
-use Rattle.std.specs.Prelude.{◌≡◌, ◌<◌, ℕ, zero, suc, Bool, true, false, cond, not, ◌&&◌, ◌==◌, List, [], ◌∷◌, length, slice_index, nat_le, nat_lt, eqb, refl}
+use Rattle.std.specs.Prelude.{◌≡◌, ◌<◌, ℕ, zero, suc, Bool, true, false, cond, List, [], ◌∷◌, length, slice_index, nat_le, eqb, refl}
 use Rattle.std.specs.List.{filter, list_any, list_all}
 use mathlib.Core.List.{map}
 use Rattle.std.proofs.Common.{arith, sym, ◌∙◌, ap, inl, inr, ◌⊎◌}
-use Rattle.std.proofs.lemmas.Bool.{and_parts, or_cases, or_left, or_right, eqb-true, eq-eqb, ltb-true}
+use Rattle.std.proofs.lemmas.Bool.{and_parts, or_cases, or_left, or_right, eqb-true, eq-eqb}
 use Rattle.sam_model.specs.declared.tensors.Tensor.{Tensor}
 use Rattle.sam_model.specs.declared.tensors.Entries.{Entries}
 use Rattle.sam_model.specs.declared.program.Factor.{Factor}
 use Rattle.sam_model.specs.declared.program.Factor.TheVariants.{Access, Literal}
 use Rattle.sam_model.specs.declared.program.Term.{Term}
 use Rattle.sam_model.specs.declared.program.Program.{Program}
-use Rattle.sam_model.specs.Lists.{below, items_at, is_in, coordinate}
+use Rattle.sam_model.specs.Lists.{items_at, is_in, coordinate}
 use Rattle.sam_model.specs.Denote.{has_var, loops_of, Loop, loop_list, tensor_at, stored_of, order_at, access_place}
-use Rattle.sam_model.specs.Accepted.{distinct, ascending, is_dimension, is_order, is_well_formed, is_operand, variables_fit, access_fits, tensor_passes, factor_fits, is_access, term_has, factor_reduces, term_fits, is_result, distinct_tensors, is_taken, is_compressed, declarations_fit, statement_fits, accepted, distinct_names, stands}
+use Rattle.sam_model.specs.Accepted.{is_order, is_well_formed, is_operand, access_fits, tensor_passes, factor_fits, term_has, term_fits}
+use Rattle.sam_model.specs.Program.{accepted}
 use Rattle.stream_tokens.specs.Shapes.{Each}
 use Rattle.stream_tokens.proofs.Algebra.{map-map}
 use Rattle.stream_model.specs.Terms.{keep, access_at, mask_of, operands_of, term_data}
 use Rattle.stream_model.specs.Trees.{free_count, kept_sizes, reduced_sizes}
 use Rattle.stream_model.specs.Labels.{loop_sizes, result_sizes}
 use Rattle.stream_model.specs.Masks.{AllFit}
+use Rattle.sam_model.proofs.AcceptedPrograms.{AccessFits, access-parts, well-formed, term-parts, accepted-parts, result-formed}
 use Rattle.sam_model.proofs.Lists.{filter-ext}
 use Rattle.sam_model.proofs.Orders.{is_in-items, items_at-map, order-in-range, Rises, rises, Rises-range, filter-members, coordinate-map}
 use Rattle.stream_model.proofs.TermLaw.{kept-none}
@@ -36,45 +38,10 @@ keep-map mask g (v ∷ vs) = by_case (mask v) (keep-map mask g vs)
 -- ---- what is accepted
 
 pub accepted-operands : (p : Program) → accepted p ≡ true → list_all is_operand p.tensors ≡ true
-accepted-operands p h =
-    (and_parts (list_all is_operand p.tensors) (is_result p.result && (distinct_tensors p.tensors && _))
-    (and_parts (declarations_fit p.tensors p.result) (statement_fits p) h).0).0
-
-pub accepted-statement : (p : Program) → accepted p ≡ true → statement_fits p ≡ true
-accepted-statement p h = (and_parts (declarations_fit p.tensors p.result) (statement_fits p) h).1
-
--- the last of eight tests that hold
-last_of : (a b c d e f g h : Bool) → (a && (b && (c && (d && (e && (f && (g && h))))))) ≡ true → h ≡ true
-last_of true true true true true true true h k = k
-last_of true true true true true true false h k = absurd (cc)
-last_of true true true true true false g h k = absurd (cc)
-last_of true true true true false f g h k = absurd (cc)
-last_of true true true false e f g h k = absurd (cc)
-last_of true true false d e f g h k = absurd (cc)
-last_of true false c d e f g h k = absurd (cc)
-last_of false b c d e f g h k = absurd (cc)
+accepted-operands p h = (accepted-parts p h).operands
 
 pub accepted-terms : (p : Program) → accepted p ≡ true → list_all (term_fits p.tensors p.var_sizes p.left) p.terms ≡ true
-accepted-terms p h =
-    last_of (length p.var_names == length p.var_sizes) (nat_le (length p.var_sizes) 8) (distinct_names p.var_names)
-    (list_all (stands p.left p.terms) (below (length p.var_sizes))) (access_fits p.var_sizes p.left p.result) (nat_le 1 (length p.terms))
-    (nat_le (length p.terms) 16) (list_all (term_fits p.tensors p.var_sizes p.left) p.terms) (accepted-statement p h)
-
-well_ordered : (t : Tensor) → is_well_formed t ≡ true → is_order (length t.dims) t.order ≡ true
-well_ordered t h =
-    let a = and_parts (nat_le (length t.dims) 8) (list_all is_dimension t.dims && (length t.formats == length t.dims && is_order (length t.dims) t.order)) h in
-    let b = and_parts (list_all is_dimension t.dims) (length t.formats == length t.dims && is_order (length t.dims) t.order) a.1 in
-    (and_parts (length t.formats == length t.dims) (is_order (length t.dims) t.order) b.1).1
-
-third_of : (a b c d : Bool) → (a && (b && (c && d))) ≡ true → c ≡ true
-third_of true true c d k = (and_parts c d k).0
-third_of true false c d k = absurd (cc)
-third_of false b c d k = absurd (cc)
-
-factors_fit : (ts : List Tensor) (sizes left : List ℕ) (t : Term) → term_fits ts sizes left t ≡ true → list_all (factor_fits ts sizes) t.factors ≡ true
-factors_fit ts sizes left t h =
-    third_of (nat_le 1 (length t.factors)) (nat_le (length t.factors) 8) (list_all (factor_fits ts sizes) t.factors)
-    (list_any is_access t.factors && (list_all (term_has t) left && list_all (factor_reduces left) t.factors)) h
+accepted-terms p h = (accepted-parts p h).terms
 
 -- ---- the tensor of an access
 
@@ -96,30 +63,6 @@ declared-at sizes vars (t ∷ ts) (x ∷ es) (suc n) h o e =
     record { tensor = r.tensor; fits = r.fits; operand = r.operand; order_is = r.order_is; sizes_are = r.sizes_are }
 
 -- ---- the variables of an access
-
-record Variables (sizes dims vars : List ℕ) : Type 0 where
-  count : length vars ≡ length dims
-  dims_are : map (slice_index sizes) vars ≡ dims
-  in_range : (v : ℕ) → is_in v vars ≡ true → v < length sizes
-
-variables : (sizes dims vars : List ℕ) → variables_fit sizes dims vars ≡ true → Variables sizes dims vars
-variables sizes [] [] h = record { count = refl; dims_are = refl; in_range = λ v e. absurd (cc) }
-variables sizes [] (v ∷ vars) h = absurd (cc)
-variables sizes (d ∷ dims) [] h = absurd (cc)
-variables sizes (d ∷ dims) (v ∷ vars) h =
-    let a = and_parts (nat_lt v (length sizes)) (slice_index sizes v == d && variables_fit sizes dims vars) h in
-    let b = and_parts (slice_index sizes v == d) (variables_fit sizes dims vars) a.1 in
-    let r : Variables sizes dims vars = variables sizes dims vars b.1 in
-    let here : slice_index sizes v ≡ d = eqb-true (slice_index sizes v) d b.0 in
-    let there : map (slice_index sizes) vars ≡ dims = r.dims_are in
-    record { count = omega (arith, r.count); dims_are = cc; in_range = in_range (ltb-true v (length sizes) a.0) r.in_range }
-  where
-    in_range : v < length sizes → ((w : ℕ) → is_in w vars ≡ true → w < length sizes) → (w : ℕ) → is_in w (v ∷ vars) ≡ true → w < length sizes
-    in_range l r w e = by_case (or_cases (eqb w v) (is_in w vars) e)
-      where
-        by_case : (eqb w v ≡ true) ⊎ (is_in w vars ≡ true) → w < length sizes
-        by_case (inl k) = let same : w ≡ v = eqb-true w v k in omega (arith, same, l)
-        by_case (inr k) = r w k
 
 each_member : (Q : ℕ → Type 0) (xs : List ℕ) → ((x : ℕ) → is_in x xs ≡ true → Q x) → Each Q xs
 each_member Q [] h = tt
@@ -143,21 +86,17 @@ pub kept-at : (p : Program) (t : Term) (vars : List ℕ) (tensor : Tensor) → a
     → ((v : ℕ) → is_in v vars ≡ true → list_any (has_var v) t.factors ≡ true) → Kept p t vars tensor
 kept-at p t vars tensor fits well has = record { permutes = permutes; loops = loops; sizes = sizes }
   where
-    v : Variables p.var_sizes tensor.dims vars
-    v =
-        variables p.var_sizes tensor.dims vars
-        (and_parts (variables_fit p.var_sizes tensor.dims vars) (distinct vars && ascending (items_at vars tensor.order)) fits).0
+    access : AccessFits p.var_sizes vars tensor
+    access = access-parts p.var_sizes vars tensor fits
 
     permutes : is_order (length vars) tensor.order ≡ true
-    permutes = ap (λ (k : ℕ). is_order k tensor.order) v.count ∙ well_ordered tensor well
+    permutes = ap (λ (k : ℕ). is_order k tensor.order) access.variables.count ∙ (well-formed tensor well).order
 
     rising : Rises 0 (items_at vars tensor.order)
-    rising =
-        let a = and_parts (variables_fit p.var_sizes tensor.dims vars) (distinct vars && ascending (items_at vars tensor.order)) fits in
-        rises (items_at vars tensor.order) (and_parts (distinct vars) (ascending (items_at vars tensor.order)) a.1).1
+    rising = rises (items_at vars tensor.order) access.ascends
 
     member : (w : ℕ) → is_in w (items_at vars tensor.order) ≡ true → (list_any (has_var w) t.factors ≡ true) × (w < length p.var_sizes)
-    member w e = let k : is_in w vars ≡ true = sym (is_in-items vars tensor.order w permutes) ∙ e in (has w k, v.in_range w k)
+    member w e = let k : is_in w vars ≡ true = sym (is_in-items vars tensor.order w permutes) ∙ e in (has w k, access.variables.in_range w k)
 
     loops : filter (λ w. is_in w vars) (loops_of p t) ≡ items_at vars tensor.order
     loops =
@@ -168,7 +107,7 @@ kept-at p t vars tensor fits well has = record { permutes = permutes; loops = lo
     sizes : map (slice_index p.var_sizes) (items_at vars tensor.order) ≡ items_at tensor.dims tensor.order
     sizes =
         sym (items_at-map (slice_index p.var_sizes) vars tensor.order (order-in-range (length vars) tensor.order permutes))
-        ∙ ap (λ (x : List ℕ). items_at x tensor.order) v.dims_are
+        ∙ ap (λ (x : List ℕ). items_at x tensor.order) access.variables.dims_are
 
 pub placed : (p : Program) (es : List Entries) (t : Term) (n : ℕ) (vars : List ℕ) → Declared p.var_sizes vars p.tensors es n
     → ((v : ℕ) → is_in v vars ≡ true → list_any (has_var v) t.factors ≡ true) → Placed p es t n vars
@@ -216,7 +155,7 @@ factors_placed p es t (Literal n ∷ factors) h o e has = factors_placed p es t 
 pub term-placed : (p : Program) (es : List Entries) (t : Term) → accepted p ≡ true → term_fits p.tensors p.var_sizes p.left t ≡ true → length es ≡ length p.tensors
     → AllPlaced p es t t.factors
 term-placed p es t h k e =
-    factors_placed p es t t.factors (factors_fit p.tensors p.var_sizes p.left t k) (accepted-operands p h) e (λ v i. i)
+    factors_placed p es t t.factors (term-parts p.tensors p.var_sizes p.left t k).fit (accepted-operands p h) e (λ v i. i)
 
 all_fit : (p : Program) (es : List Entries) (t : Term) (factors : List Factor) → AllPlaced p es t factors → (f : ℕ)
     → f < length (operands_of (stored_of p.tensors es) (loops_of p t) factors)
@@ -243,30 +182,8 @@ kept-sizes-map size test (v ∷ vs) = by_case (test v) (kept-sizes-map size test
     by_case true e = ap (λ (x : List ℕ). size v ∷ x) e
     by_case false e = e
 
-fifth_of : (a b c d e f g h : Bool) → (a && (b && (c && (d && (e && (f && (g && h))))))) ≡ true → e ≡ true
-fifth_of true true true true e f g h k = (and_parts e (f && (g && h)) k).0
-fifth_of true true true false e f g h k = absurd (cc)
-fifth_of true true false d e f g h k = absurd (cc)
-fifth_of true false c d e f g h k = absurd (cc)
-fifth_of false b c d e f g h k = absurd (cc)
-
 pub accepted-result : (p : Program) → accepted p ≡ true → (access_fits p.var_sizes p.left p.result ≡ true) × (is_well_formed p.result ≡ true)
-accepted-result p h =
-    let d = and_parts (declarations_fit p.tensors p.result) (statement_fits p) h in
-    let a = and_parts (list_all is_operand p.tensors) (is_result p.result && (distinct_tensors p.tensors && not (is_taken p.result.name p.tensors))) d.0 in
-    let b = and_parts (is_result p.result) (distinct_tensors p.tensors && not (is_taken p.result.name p.tensors)) a.1 in (
-      fifth_of (length p.var_names == length p.var_sizes) (nat_le (length p.var_sizes) 8) (distinct_names p.var_names)
-          (list_all (stands p.left p.terms) (below (length p.var_sizes))) (access_fits p.var_sizes p.left p.result) (nat_le 1 (length p.terms))
-          (nat_le (length p.terms) 16) (list_all (term_fits p.tensors p.var_sizes p.left) p.terms) d.1,
-      (and_parts (is_well_formed p.result) (list_all is_compressed p.result.formats) b.0).0,
-    )
-
-left_of : (a b c d e f : Bool) → (a && (b && (c && (d && (e && f))))) ≡ true → e ≡ true
-left_of true true true true e f k = (and_parts e f k).0
-left_of true true true false e f k = absurd (cc)
-left_of true true false d e f k = absurd (cc)
-left_of true false c d e f k = absurd (cc)
-left_of false b c d e f k = absurd (cc)
+accepted-result p h = ((accepted-parts p h).left, result-formed p h)
 
 has_all : (t : Term) (vs : List ℕ) → list_all (term_has t) vs ≡ true → (v : ℕ) → is_in v vs ≡ true → list_any (has_var v) t.factors ≡ true
 has_all t [] h v e = absurd (cc)
@@ -282,9 +199,7 @@ pub term-left : (p : Program) (t : Term) → accepted p ≡ true → term_fits p
 term-left p t h k =
     let r = accepted-result p h in
     kept-at p t p.left p.result r.0 r.1
-    (has_all t p.left
-    (left_of (nat_le 1 (length t.factors)) (nat_le (length t.factors) 8) (list_all (factor_fits p.tensors p.var_sizes) t.factors)
-    (list_any is_access t.factors) (list_all (term_has t) p.left) (list_all (factor_reduces p.left) t.factors) k))
+    (has_all t p.left (term-parts p.tensors p.var_sizes p.left t k).complete)
 
 -- the tree of a term has the sizes of the result's levels
 pub term-sizes : (p : Program) (es : List Entries) (first : Bool) (t : Term) → accepted p ≡ true → term_fits p.tensors p.var_sizes p.left t ≡ true

@@ -10,7 +10,8 @@ use Rattle.sam_model.specs.declared.program.Term.{Term}
 use Rattle.sam_model.specs.declared.program.Program.{Program}
 use Rattle.sam_model.specs.Lists.{tuples}
 use Rattle.sam_model.specs.Denote.{loop_list, term_at, den, pat, result_entries}
-use Rattle.sam_model.specs.Accepted.{term_fits, accepted}
+use Rattle.sam_model.specs.Accepted.{term_fits}
+use Rattle.sam_model.specs.Program.{accepted}
 use Rattle.stream_tokens.specs.Shapes.{on_tokens, Each}
 use Rattle.stream_tokens.proofs.Algebra.{map-map, Each-imp}
 use Rattle.stream_model.specs.declared.labels.Attr.TheVariants.{Value}
