@@ -44,6 +44,7 @@ program tensors result left terms sizes = record {
   result = result;
   left = left;
   terms = terms;
+  tops = [];
   var_names = map (λ _. []) sizes;
   var_sizes = sizes;
 }

@@ -1,7 +1,8 @@
 //! The blocks of a program, in the order in which they are made.
 
 ghost use Rattle.std.specs.Prelude.{◌≡◌, ◌≤◌, ◌++◌, true, length, map, drop, IfOk};
-ghost use Rattle.sam_model.specs.Accepted.{accepted, term_fits};
+ghost use Rattle.sam_model.specs.Accepted.{term_fits};
+ghost use Rattle.sam_model.specs.Program.{accepted};
 ghost use Rattle.label_rules.specs.Plans.{PlanIsSmall, left_marks};
 ghost use Rattle.custard_lower.specs.Lowering.{summed_levels, term_levels, with_writers, first_level_tree, part, with_term, with_terms, program_draft};
 

@@ -1,7 +1,7 @@
 //! The graph of a program.
 
 ghost use Rattle.std.specs.Prelude.{◌≡◌, true, IfOk};
-ghost use Rattle.sam_model.specs.Accepted.{accepted};
+ghost use Rattle.sam_model.specs.Program.{accepted};
 ghost use Rattle.custard_lower.specs.Lowered.{Lowered};
 
 use crate::lowering::draft;

@@ -26,6 +26,7 @@ copy = record {
   result = vector (codes "x");
   left = 0 ∷ [];
   terms = (record { minus = false; factors = Access 0 (0 ∷ []) ∷ [] }) ∷ [];
+  tops = [];
   var_names = codes "i" ∷ [];
   var_sizes = 4 ∷ [];
 }

@@ -21,6 +21,7 @@ two_tensors = record {
   result = record { name = codes "x"; dims = []; formats = []; order = []; file = [] };
   left = [];
   terms = [];
+  tops = [];
   var_names = [];
   var_sizes = [];
 }

@@ -7,7 +7,7 @@ use Rattle.sam_base.specs.declared.faults.ProgramKind.TheVariants.{FileTooLong}
 use Rattle.sam_text.specs.Names.{is_name}
 use Rattle.sam_model.specs.declared.tensors.Tensor.{Tensor}
 use Rattle.sam_model.specs.declared.program.Program.{Program}
-use Rattle.sam_model.specs.Accepted.{accepted}
+use Rattle.sam_model.specs.Program.{accepted}
 use Rattle.program_file.specs.Refusals.{ProgramRefusal}
 use Rattle.program_file.specs.Programs.{program_reading}
 use Rattle.parts.specs.Parts.{Part, gives, followed, reads}

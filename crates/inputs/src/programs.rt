@@ -2,7 +2,7 @@
 
 ghost use Rattle.std.specs.Prelude.{◌≡◌, ◌≤◌, length, true, IfOk, IfSome};
 ghost use Rattle.sam_io.specs.Spans.{KeepsFiles, files_span};
-ghost use Rattle.sam_model.specs.Accepted.{accepted};
+ghost use Rattle.sam_model.specs.Program.{accepted};
 ghost use Rattle.parts.specs.Parts.{gives, followed};
 ghost use Rattle.parts.specs.Answers.{Comes, ComesAlways};
 ghost use Rattle.inputs.specs.Programs.{program_in, accepts, program_part, HasNames};

@@ -4,7 +4,8 @@ ghost use Rattle.std.specs.Prelude.{true, ◌≡◌, ◌<◌, ◌≤◌, ◌*◌
 ghost use Rattle.std.specs.List.{list_any, All};
 ghost use Rattle.sam_model.specs.Lists.{is_in};
 ghost use Rattle.sam_model.specs.Denote.{loops_of, has_var};
-ghost use Rattle.sam_model.specs.Accepted.{is_access, accepted, term_fits};
+ghost use Rattle.sam_model.specs.Accepted.{is_access, term_fits};
+ghost use Rattle.sam_model.specs.Program.{accepted};
 ghost use Rattle.stream_model.specs.Terms.{mask_of, literals_of, coefficient_of};
 ghost use Rattle.label_rules.specs.Plans.{accesses_of, has_literal, plan_of, plan_access, has_loop, asked, spared, left_marks, PlanIsSmall};
 

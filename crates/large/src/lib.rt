@@ -3,7 +3,7 @@
 
 ghost use Rattle.std.specs.Prelude.{◌≡◌, ◌≤◌, true, IfOk};
 ghost use Rattle.sam_base.specs.declared.TheConstants.{LARGE_MOST};
-ghost use Rattle.sam_model.specs.Accepted.{accepted};
+ghost use Rattle.sam_model.specs.Program.{accepted};
 ghost use Rattle.inputs.specs.Tensors.{AreStored};
 ghost use Rattle.gen_data.specs.Workload.{workload, workload_entries};
 ghost use Rattle.large.specs.Summaries.{large_text};

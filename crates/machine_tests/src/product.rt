@@ -2,7 +2,7 @@
 
 ghost use Rattle.std.specs.Prelude.{◌≡◌, List, true, IfOk};
 ghost use Rattle.sam_model.specs.declared.tensors.Entries.{Entries};
-ghost use Rattle.sam_model.specs.Accepted.{accepted};
+ghost use Rattle.sam_model.specs.Program.{accepted};
 ghost use Rattle.sam_model.specs.Children.{Ranked};
 ghost use Rattle.graph.specs.declared.graphs.Graph.{Graph as Wired};
 ghost use Rattle.graph.specs.Standing.{StandAt, start_position};

@@ -4,12 +4,9 @@ use Rattle.std.specs.List.{list_all}
 use Rattle.std.proofs.lemmas.Bool.{and_parts}
 use Rattle.sam_base.specs.declared.TheConstants.{DIMENSION_MOST}
 use Rattle.sam_model.specs.declared.program.Program.{Program}
-use Rattle.sam_model.specs.Accepted.{is_dimension, is_well_formed, is_result, declarations_fit, statement_fits, accepted}
-
-result_well : (p : Program) → accepted p ≡ true → is_well_formed p.result ≡ true
-result_well p is_accepted =
-    let declared = (and_parts (declarations_fit p.tensors p.result) (statement_fits p) is_accepted).0 in
-    (and_parts (is_well_formed p.result) _ (and_parts (is_result p.result) _ (and_parts _ _ declared).1).0).0
+use Rattle.sam_model.specs.Accepted.{is_dimension}
+use Rattle.sam_model.specs.Program.{accepted}
+use Rattle.sam_model.proofs.AcceptedPrograms.{well-formed, result-formed}
 
 in_range : (dims : List ℕ) → list_all is_dimension dims ≡ true → list_all (λ size. leb size DIMENSION_MOST) dims ≡ true
 in_range [] all = refl
@@ -19,4 +16,4 @@ in_range (d ∷ dims) all =
 
 -- the dimensions of its result are no more than a dimension may be
 pub dims-fit : (p : Program) → accepted p ≡ true → list_all (λ size. leb size DIMENSION_MOST) p.result.dims ≡ true
-dims-fit p is_accepted = in_range p.result.dims (and_parts _ _ (and_parts _ _ (result_well p is_accepted)).1).0
+dims-fit p is_accepted = in_range p.result.dims (well-formed p.result (result-formed p is_accepted)).dims

@@ -8,7 +8,7 @@ use Rattle.sam_base.specs.declared.faults.Waiting.{Waiting}
 use Rattle.sam_model.specs.declared.tensors.Entries.{Entries}
 use Rattle.sam_model.specs.declared.program.Program.{Program}
 use Rattle.sam_model.specs.Children.{Ranked}
-use Rattle.sam_model.specs.Accepted.{accepted}
+use Rattle.sam_model.specs.Program.{accepted}
 use Rattle.sam_model.specs.Lists.{below}
 use Rattle.sam_model.specs.ResultText.{result_text}
 use Rattle.graph.specs.declared.graphs.Graph.{Graph}

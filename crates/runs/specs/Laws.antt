@@ -3,7 +3,7 @@ use Rattle.std.specs.Prelude.{◌≡◌, ◌<◌, true, ℕ, List, [], length, O
 use Rattle.sam_base.specs.declared.faults.Fault.{Fault}
 use Rattle.sam_model.specs.declared.tensors.Entries.{Entries}
 use Rattle.sam_model.specs.declared.program.Program.{Program}
-use Rattle.sam_model.specs.Accepted.{accepted}
+use Rattle.sam_model.specs.Program.{accepted}
 use Rattle.sam_model.specs.ResultText.{result_text}
 use Rattle.graph.specs.WholeStreams.{whole_stream}
 use Rattle.plays.specs.Net.{AtMost}

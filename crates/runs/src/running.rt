@@ -2,7 +2,7 @@
 
 ghost use Rattle.std.specs.Prelude.{◌≡◌, List, true, IfOk};
 ghost use Rattle.sam_model.specs.declared.tensors.Entries.{Entries};
-ghost use Rattle.sam_model.specs.Accepted.{accepted};
+ghost use Rattle.sam_model.specs.Program.{accepted};
 ghost use Rattle.machines.specs.Runnable.{Runnable};
 ghost use Rattle.custard_lower.specs.Lowered.{Lowered};
 ghost use Rattle.inputs.specs.Tensors.{AreStored};

@@ -6,7 +6,7 @@ use Rattle.sam_base.specs.declared.faults.Fault.{Fault}
 use Rattle.sam_base.specs.declared.faults.Fault.TheVariants.{TooManyBlocks}
 use Rattle.sam_io.specs.Outside.{Told}
 use Rattle.sam_model.specs.declared.program.Program.{Program}
-use Rattle.sam_model.specs.Accepted.{accepted}
+use Rattle.sam_model.specs.Program.{accepted}
 use Rattle.parts.specs.Parts.{Part, each_part}
 use Rattle.parts.proofs.DueLemmas.{ok_same}
 use Rattle.inputs.specs.Programs.{program_part}

@@ -2,7 +2,7 @@
 
 ghost use Rattle.std.specs.Prelude.{◌≡◌, true, Ok};
 ghost use Rattle.sam_io.specs.Spans.{KeepsFiles, files_span};
-ghost use Rattle.sam_model.specs.Accepted.{accepted};
+ghost use Rattle.sam_model.specs.Program.{accepted};
 ghost use Rattle.custard_lower.specs.Lowered.{low};
 ghost use Rattle.graph_json.specs.Spelled.{graph_text};
 ghost use Rattle.parts.specs.Parts.{gives};

@@ -3,7 +3,7 @@
 ghost use Rattle.std.specs.Prelude.{◌≡◌, List, true};
 ghost use Rattle.sam_io.specs.Spans.{KeepsFiles, files_span};
 ghost use Rattle.sam_model.specs.declared.tensors.Entries.{Entries};
-ghost use Rattle.sam_model.specs.Accepted.{accepted};
+ghost use Rattle.sam_model.specs.Program.{accepted};
 ghost use Rattle.custard_lower.specs.Lowered.{Lowered, low};
 ghost use Rattle.parts.specs.Parts.{followed, each_part};
 ghost use Rattle.parts.specs.Answers.{Comes, ComesAlways};

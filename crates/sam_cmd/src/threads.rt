@@ -4,7 +4,7 @@ ghost use Rattle.std.specs.Prelude.{◌≡◌, ◌≤◌, List, true, Ok, IfOk, 
 ghost use Rattle.sam_base.specs.declared.TheConstants.{CAPACITY_MOST};
 ghost use Rattle.sam_io.specs.Spans.{KeepsFiles, files_span};
 ghost use Rattle.sam_model.specs.declared.tensors.Entries.{Entries};
-ghost use Rattle.sam_model.specs.Accepted.{accepted};
+ghost use Rattle.sam_model.specs.Program.{accepted};
 ghost use Rattle.sam_model.specs.ResultText.{result_text};
 ghost use Rattle.custard_lower.specs.Lowered.{Lowered, low};
 ghost use Rattle.parts.specs.Parts.{gives, followed, each_part};

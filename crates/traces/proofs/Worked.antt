@@ -51,6 +51,7 @@ product = record {
   result = vector;
   left = 0 ∷ [];
   terms = record { minus = false; factors = Access 0 (0 ∷ []) ∷ Access 1 (0 ∷ []) ∷ [] } ∷ [];
+  tops = [];
   var_names = [] ∷ [];
   var_sizes = 4 ∷ [];
 }

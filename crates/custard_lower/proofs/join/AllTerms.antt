@@ -11,7 +11,8 @@ use Rattle.levels.proofs.ConditionLemmas.{storable}
 use Rattle.sam_model.specs.declared.tensors.Entries.{Entries}
 use Rattle.sam_model.specs.declared.program.Term.{Term}
 use Rattle.sam_model.specs.declared.program.Program.{Program}
-use Rattle.sam_model.specs.Accepted.{accepted, term_fits}
+use Rattle.sam_model.specs.Accepted.{term_fits}
+use Rattle.sam_model.specs.Program.{accepted}
 use Rattle.sam_model.specs.Children.{Ranked}
 use Rattle.stream_model.specs.declared.labels.Attr.TheVariants.{Coordinate, Value, Present, SideValue, Literal}
 use Rattle.stream_model.specs.declared.labels.Attr.{Attr}

@@ -5,7 +5,7 @@ use Rattle.stream_tokens.specs.declared.Token.{Token}
 use Rattle.sam_model.specs.declared.tensors.Entries.{Entries}
 use Rattle.sam_model.specs.declared.program.Term.{Term}
 use Rattle.sam_model.specs.declared.program.Program.{Program}
-use Rattle.sam_model.specs.Accepted.{accepted}
+use Rattle.sam_model.specs.Program.{accepted}
 use Rattle.sam_model.specs.Children.{Ranked}
 use Rattle.stream_model.specs.declared.labels.Attr.TheVariants.{Coordinate, Value}
 use Rattle.stream_model.specs.declared.labels.Label.{Label}

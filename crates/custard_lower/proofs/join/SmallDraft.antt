@@ -9,7 +9,8 @@ use Rattle.std.proofs.lemmas.List.FromFn.{length-range_with_len}
 use Rattle.sam_model.specs.declared.program.Term.{Term}
 use Rattle.sam_model.specs.declared.program.Program.{Program}
 use Rattle.sam_model.specs.Lists.{below}
-use Rattle.sam_model.specs.Accepted.{accepted, term_fits}
+use Rattle.sam_model.specs.Accepted.{term_fits}
+use Rattle.sam_model.specs.Program.{accepted}
 use Rattle.stream_model.specs.declared.labels.Label.{Label}
 use Rattle.stream_model.specs.declared.labels.Attr.TheVariants.{Rank, Value}
 use Rattle.stream_model.specs.declared.labels.Side.{Side}

@@ -7,7 +7,7 @@ use Rattle.sam_model.specs.declared.tensors.Tensor.{Tensor}
 use Rattle.sam_model.specs.declared.tensors.Entries.{Entries}
 use Rattle.sam_model.specs.declared.program.Term.{Term}
 use Rattle.sam_model.specs.declared.program.Program.{Program}
-use Rattle.sam_model.specs.Accepted.{accepted}
+use Rattle.sam_model.specs.Program.{accepted}
 use Rattle.graph.specs.declared.graphs.Graph.{Graph}
 use Rattle.graph.specs.Wiring.{WellFormed}
 use Rattle.graph.specs.Assembly.{FewPayloads}

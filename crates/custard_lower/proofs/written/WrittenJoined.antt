@@ -9,7 +9,7 @@ use Rattle.sam_model.specs.declared.tensors.Written.{Written}
 use Rattle.sam_model.specs.declared.program.Program.{Program}
 use Rattle.sam_model.specs.Lists.{below, tuples}
 use Rattle.sam_model.specs.Denote.{den, pat, result_entries}
-use Rattle.sam_model.specs.Accepted.{accepted}
+use Rattle.sam_model.specs.Program.{accepted}
 use Rattle.sam_model.specs.Listing.{InRange, listing}
 use Rattle.block_core.specs.Written.{segs_of, crds_of, vals_of}
 use Rattle.stream_model.specs.declared.labels.Attr.TheVariants.{Coordinate, Value}

@@ -10,7 +10,7 @@ use Rattle.sam_model.specs.declared.program.Term.{Term}
 use Rattle.sam_model.specs.declared.program.Program.{Program}
 use Rattle.sam_model.specs.Lists.{tuples}
 use Rattle.sam_model.specs.Denote.{loop_list, den, pat, result_entries}
-use Rattle.sam_model.specs.Accepted.{accepted}
+use Rattle.sam_model.specs.Program.{accepted}
 use Rattle.sam_model.specs.Listing.{InRange, listing}
 use Rattle.stream_tokens.specs.declared.Token.{Token}
 use Rattle.stream_tokens.specs.Shapes.{on_tokens}

@@ -8,7 +8,7 @@ use Rattle.std.proofs.lemmas.Bool.Decides.{nat_tests}
 use Rattle.stream_tokens.specs.declared.Token.{Token}
 use Rattle.sam_model.specs.declared.tensors.Entries.{Entries}
 use Rattle.sam_model.specs.declared.program.Program.{Program}
-use Rattle.sam_model.specs.Accepted.{accepted}
+use Rattle.sam_model.specs.Program.{accepted}
 use Rattle.sam_model.specs.Denote.{Loop}
 use Rattle.stream_model.specs.declared.labels.Attr.{Attr}
 use Rattle.stream_model.specs.declared.labels.Attr.TheVariants.{Coordinate, FactorValue, Partial, Whole, Value}

@@ -13,7 +13,8 @@ use Rattle.stream_tokens.proofs.Algebra.{map-map}
 use Rattle.sam_model.specs.declared.tensors.Entries.{Entries}
 use Rattle.sam_model.specs.declared.program.Term.{Term}
 use Rattle.sam_model.specs.declared.program.Program.{Program}
-use Rattle.sam_model.specs.Accepted.{accepted, term_fits}
+use Rattle.sam_model.specs.Accepted.{term_fits}
+use Rattle.sam_model.specs.Program.{accepted}
 use Rattle.sam_model.specs.Children.{Ranked}
 use Rattle.stream_model.specs.declared.labels.Tree.{Tree}
 use Rattle.stream_model.specs.declared.labels.Tree.TheVariants.{Root, Product, Reduced, Joined, Beside, Across, Under, UnderReduced, UnderJoined}

@@ -18,7 +18,8 @@ use Rattle.sam_model.specs.Children.{ranked}
 use Rattle.sam_model.specs.Lists.{is_in, items_at}
 use Rattle.sam_model.specs.Tensors.{Stored}
 use Rattle.sam_model.specs.Denote.{has_var, loops_of, Loop, loop_list, tensor_at, stored_of}
-use Rattle.sam_model.specs.Accepted.{is_access, is_operand, is_well_formed, tensor_passes, access_fits, factor_fits, term_has, factor_reduces, term_fits, accepted}
+use Rattle.sam_model.specs.Accepted.{is_access, is_operand, is_well_formed, tensor_passes, access_fits, factor_fits, term_has, factor_reduces, term_fits}
+use Rattle.sam_model.specs.Program.{accepted}
 use Rattle.stream_model.specs.Terms.{Operand, access_at, keep, mask_of, operands_of, literals_of, coefficient_of, term_data}
 use Rattle.stream_model.specs.Labels.{loop_sizes}
 use Rattle.sam_model.proofs.Lists.{filter-range}

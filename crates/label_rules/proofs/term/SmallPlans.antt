@@ -11,30 +11,22 @@ use Rattle.sam_model.specs.declared.program.Term.{Term}
 use Rattle.sam_model.specs.declared.program.Program.{Program}
 use Rattle.sam_model.specs.Lists.{below, is_in}
 use Rattle.sam_model.specs.Denote.{loops_of, loop_list}
-use Rattle.sam_model.specs.Accepted.{accepted, term_fits, factor_fits, is_access, term_has, factor_reduces, access_fits, distinct_names, stands}
-use Rattle.stream_model.proofs.Places.{accepted-statement, accepted-terms, term-left}
+use Rattle.sam_model.specs.Accepted.{term_fits, factor_fits, is_access, term_has, factor_reduces, access_fits, distinct_names, stands}
+use Rattle.sam_model.specs.Program.{accepted}
+use Rattle.sam_model.proofs.AcceptedPrograms.{accepted-parts}
+use Rattle.stream_model.proofs.Places.{accepted-terms, term-left}
 use Rattle.stream_model.proofs.Depths.{term-few}
 use Rattle.label_rules.specs.Plans.{accesses_of, plan_of, PlanIsSmall, left_marks}
 
 -- ---- how many terms
 
-counted : (p : Program) → accepted p ≡ true → (nat_le 1 (length p.terms) ≡ true) × (nat_le (length p.terms) 16 ≡ true)
-counted p h =
-    let names = and_parts (length p.var_names == length p.var_sizes) _ (accepted-statement p h) in
-    let few = and_parts (nat_le (length p.var_sizes) 8) _ names.1 in
-    let differ = and_parts (distinct_names p.var_names) _ few.1 in
-    let stand = and_parts (list_all (stands p.left p.terms) (below (length p.var_sizes))) _ differ.1 in
-    let left = and_parts (access_fits p.var_sizes p.left p.result) _ stand.1 in
-    let some = and_parts (nat_le 1 (length p.terms)) _ left.1 in
-    (some.0, (and_parts (nat_le (length p.terms) 16) _ some.1).0)
-
 -- an accepted program has a term
 pub some_term : (p : Program) → accepted p ≡ true → 1 ≤ length p.terms
-some_term p h = leb-true 1 (length p.terms) (counted p h).0
+some_term p h = (accepted-parts p h).some
 
 -- and at most sixteen
 pub few_terms : (p : Program) → accepted p ≡ true → length p.terms ≤ 16
-few_terms p h = leb-true (length p.terms) 16 (counted p h).1
+few_terms p h = (accepted-parts p h).short
 
 -- ---- each of them
 
