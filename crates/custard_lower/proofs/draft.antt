@@ -1,4 +1,3 @@
-pub mod Typed
 pub mod Emitted
 pub mod WorkedDrafts
 pub mod Pieces
@@ -9,7 +8,7 @@ pub mod GraphPlaces
 pub mod DraftPorts
 pub mod DraftJoined
 pub mod DraftFormed
-pub mod DraftCarried
+pub mod DraftRuled
 pub mod DraftStreams
 pub mod SmallGraphs
 pub mod Counted

@@ -2,9 +2,16 @@ pub mod Blocks
 pub mod Counting
 pub mod Meeting
 pub mod Nesting
+pub mod TermAllowed
 pub mod LevelSound
 pub mod NestSound
 pub mod ValuesSound
 pub mod ReducedSound
 pub mod PrunedSound
+pub mod SummedSound
+pub mod PlanFacts
+pub mod MetAllowed
+pub mod PlainRules
+pub mod ValuesAllowed
+pub mod SumsAllowed
 pub mod TermSound

@@ -1,4 +1,5 @@
 pub mod Drafts
+pub mod Trees
 pub mod Nests
 pub mod Values
 pub mod Reductions
@@ -8,3 +9,4 @@ pub mod Fans
 pub mod DraftGraph
 pub mod DraftFans
 pub mod Lowered
+pub mod Laws

@@ -8,10 +8,13 @@ use Rattle.stream_model.specs.declared.labels.Tree.{Tree}
 use Rattle.stream_model.specs.declared.labels.Tree.TheVariants.{Reduced, Joined}
 use Rattle.graph.specs.declared.graphs.Kind.TheVariants as kind
 use Rattle.custard_lower.specs.declared.drafts.Made.{Made}
+use Rattle.custard_lower.specs.declared.trees.TermTrees.{TermTrees}
+use Rattle.custard_lower.specs.declared.trees.TermTrees.TheVariants.{Own}
+use Rattle.custard_lower.specs.declared.trees.PrunedTrees.TheVariants.{OfTerm}
 use Rattle.label_rules.specs.declared.plans.Plan.{Plan}
 use Rattle.label_rules.specs.Labels.{no_label}
 use Rattle.label_rules.specs.Plans.{plan_of, free_marks}
-use Rattle.custard_lower.specs.Nests.{nest}
+use Rattle.custard_lower.specs.Nests.{Nest, nest}
 use Rattle.custard_lower.specs.Values.{valued}
 use Rattle.custard_lower.specs.Reductions.{Levels, reduced, pruned}
 use Rattle.custard_lower.specs.Unions.{Part, joined_sides}
@@ -20,15 +23,17 @@ use Rattle.custard_lower.specs.Unions.{Part, joined_sides}
 abbrev pub root : Made
 root = record { kind = kind.Root; ins = []; labels = no_label ∷ [] }
 
--- a term's loops, its values, and the sums over its loops that aren't on the left
+-- after a term's loops, its values, and the sums over its loops that aren't on the left
+abbrev pub summed_nest : TermTrees → Plan → Nest → Levels
+summed_nest trees t n =
+    let v = valued trees t n.made n.references in
+    reduced trees t.on_left (record { made = v.made; coordinates = n.coordinates; values = v.values })
+
 abbrev pub summed_levels : ℕ → Plan → List Made → Levels
-summed_levels term t made =
-    let n = nest term t (length t.on_left) made in
-    let v = valued term t n.made n.references in
-    reduced term t.on_left (record { made = v.made; coordinates = n.coordinates; values = v.values })
+summed_levels term t made = summed_nest (Own term) t (nest (Own term) t (length t.on_left) made)
 
 abbrev pub term_levels : ℕ → Plan → List Made → Levels
-term_levels term t made = pruned term (free_marks t.on_left) (summed_levels term t made)
+term_levels term t made = pruned (OfTerm term (free_marks t.on_left)) (summed_levels term t made)
 
 -- ---- the writers
 

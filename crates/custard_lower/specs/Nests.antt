@@ -5,11 +5,12 @@ use mathlib.Core.List.{map}
 use Rattle.stream_model.specs.declared.labels.Label.{Label}
 use Rattle.stream_model.specs.declared.labels.Attr.{Attr}
 use Rattle.stream_model.specs.declared.labels.Attr.TheVariants.{Coordinate, Rank}
-use Rattle.stream_model.specs.declared.labels.Tree.TheVariants.{Product}
 use Rattle.stream_model.specs.Masks.{levels_before}
 use Rattle.graph.specs.declared.graphs.Kind.TheVariants as kind
 use Rattle.custard_lower.specs.declared.drafts.Made.{Made}
 use Rattle.label_rules.specs.declared.plans.Plan.{Plan}
+use Rattle.custard_lower.specs.declared.trees.TermTrees.{TermTrees}
+use Rattle.custard_lower.specs.Trees.{product_tree}
 pub use Rattle.custard_lower.specs.declared.nests.Met.{Met}
 pub use Rattle.custard_lower.specs.declared.nests.Nest.{Nest}
 use Rattle.custard_lower.specs.Drafts.{outputs_of}
@@ -22,8 +23,8 @@ pub record Meeting : Type 0 where
   pub met : Met
 
 -- the product tree of a term down to a level, which these factors restrict
-abbrev pub product_tree_label : ℕ → ℕ → List ℕ → Attr → Label
-product_tree_label term level factors attr = record { tree = Product term level (factors_mask factors); attr = attr }
+abbrev pub product_tree_label : TermTrees → ℕ → List ℕ → Attr → Label
+product_tree_label trees level factors attr = record { tree = product_tree trees level (factors_mask factors); attr = attr }
 
 -- the outputs of the numbers ws put at the places fs
 abbrev pub placed : List ℕ → List ℕ → List ℕ → List ℕ
@@ -31,12 +32,12 @@ placed references [] ws = references
 placed references (f ∷ fs) [] = references
 placed references (f ∷ fs) (w ∷ ws) = placed (set references f w) fs ws
 
--- term number `term`
-module _ (term : ℕ) (t : Plan) where
+-- a term, whose labels name these trees
+module _ (trees : TermTrees) (t : Plan) where
   -- the coordinates and the references of these factors
   abbrev pub head_labels : ℕ → List ℕ → List Label
   head_labels level factors =
-      product_tree_label term level factors Coordinate ∷ map (λ f. product_tree_label term level factors (Rank f)) factors
+      product_tree_label trees level factors Coordinate ∷ map (λ f. product_tree_label trees level factors (Rank f)) factors
 
   -- ---- the blocks below d loops; level d + 1 is theirs
 
@@ -59,7 +60,7 @@ module _ (term : ℕ) (t : Plan) where
   repeat d coordinates references f = record {
     kind = kind.Repeat;
     ins = coordinates ∷ get_or references f 0 ∷ [];
-    labels = product_tree_label term (suc d) (asked t d) (Rank f) ∷ [];
+    labels = product_tree_label trees (suc d) (asked t d) (Rank f) ∷ [];
   }
 
   -- ---- a level

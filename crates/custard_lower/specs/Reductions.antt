@@ -3,26 +3,27 @@ use Rattle.std.specs.Prelude.{ℕ, zero, suc, ◌-◌, Bool, true, false, List, 
 use Rattle.stream_model.specs.declared.labels.Label.{Label}
 use Rattle.stream_model.specs.declared.labels.Attr.{Attr}
 use Rattle.stream_model.specs.declared.labels.Attr.TheVariants.{Coordinate, Value}
-use Rattle.stream_model.specs.declared.labels.Tree.TheVariants as tree
 use Rattle.graph.specs.declared.graphs.Kind.TheVariants as kind
 use Rattle.custard_lower.specs.declared.drafts.Made.{Made}
 pub use Rattle.custard_lower.specs.declared.reductions.Levels.{Levels}
 use Rattle.label_rules.specs.Plans.{left_marks, free_marks}
+use Rattle.custard_lower.specs.declared.trees.TermTrees.{TermTrees}
+use Rattle.custard_lower.specs.declared.trees.PrunedTrees.{PrunedTrees}
+use Rattle.custard_lower.specs.Trees.{reduced_tree, pruned_tree}
 use Rattle.custard_lower.specs.Drafts.{outputs_of}
 
-abbrev pub reduced_tree_label : ℕ → ℕ → ℕ → ℕ → Attr → Label
-reduced_tree_label term gone prune depth attr = record { tree = tree.Reduced term gone prune depth; attr = attr }
+abbrev pub reduced_tree_label : TermTrees → ℕ → ℕ → Attr → Label
+reduced_tree_label trees gone depth attr = record { tree = reduced_tree trees gone depth; attr = attr }
 
--- no tree is deeper than 8
-abbrev pub unpruned : ℕ
-unpruned = 9
+abbrev pub pruned_tree_label : PrunedTrees → ℕ → ℕ → Attr → Label
+pruned_tree_label trees prune depth attr = record { tree = pruned_tree trees prune depth; attr = attr }
 
 -- the coordinates of the k-th level, counted from 1; the root, output 0, is level 0
 abbrev pub level_at : List ℕ → ℕ → ℕ
 level_at coordinates zero = 0
 level_at coordinates (suc k) = get_or coordinates k 0
 
-module _ (term : ℕ) where
+module _ (trees : TermTrees) where
   -- ---- a loop is taken away, where `gone` are gone already and n levels are left before
 
   abbrev pub sum_scalar : ℕ → Levels → Made
@@ -31,7 +32,7 @@ module _ (term : ℕ) where
       record {
         kind = kind.SumScalar;
         ins = level_at l.coordinates n ∷ l.values ∷ [];
-        labels = reduced_tree_label term (suc gone) unpruned n Value ∷ [];
+        labels = reduced_tree_label trees (suc gone) n Value ∷ [];
       }
 
   abbrev pub sum_vector : ℕ → Levels → Made
@@ -40,7 +41,7 @@ module _ (term : ℕ) where
       record {
         kind = kind.SumVector;
         ins = level_at l.coordinates (suc n) ∷ l.values ∷ [];
-        labels = reduced_tree_label term (suc gone) unpruned n Coordinate ∷ reduced_tree_label term (suc gone) unpruned n Value ∷ [];
+        labels = reduced_tree_label trees (suc gone) n Coordinate ∷ reduced_tree_label trees (suc gone) n Value ∷ [];
       }
 
   abbrev pub sum_matrix : ℕ → Levels → Made
@@ -50,9 +51,9 @@ module _ (term : ℕ) where
         kind = kind.SumMatrix;
         ins = level_at l.coordinates n ∷ level_at l.coordinates (suc n) ∷ l.values ∷ [];
         labels =
-            reduced_tree_label term (suc gone) unpruned (n - 1) Coordinate
-            ∷ reduced_tree_label term (suc gone) unpruned n Coordinate
-            ∷ reduced_tree_label term (suc gone) unpruned n Value
+            reduced_tree_label trees (suc gone) (n - 1) Coordinate
+            ∷ reduced_tree_label trees (suc gone) n Coordinate
+            ∷ reduced_tree_label trees (suc gone) n Value
             ∷ [];
       }
 
@@ -85,52 +86,53 @@ module _ (term : ℕ) where
   reduced (true ∷ marks) l = reduced marks l
   reduced (false ∷ marks) l = reduce (free_marks marks) (left_marks marks) (reduced marks l)
 
-  -- ---- what has no value is left out
+-- ---- what has no value is left out
 
-  abbrev pub drop_value : ℕ → Levels → Made
-  drop_value gone l =
+module _ (trees : PrunedTrees) where
+  abbrev pub drop_value : Levels → Made
+  drop_value l =
       let n = length l.coordinates in
       record {
         kind = kind.DropValue;
         ins = level_at l.coordinates n ∷ l.values ∷ [];
-        labels = reduced_tree_label term gone n n Coordinate ∷ reduced_tree_label term gone n n Value ∷ [];
+        labels = pruned_tree_label trees n n Coordinate ∷ pruned_tree_label trees n n Value ∷ [];
       }
 
-  abbrev pub without_values : ℕ → Levels → Levels
-  without_values gone l =
+  abbrev pub without_values : Levels → Levels
+  without_values l =
       let w = outputs_of l.made in
       record {
-        made = l.made ++ drop_value gone l ∷ [];
+        made = l.made ++ drop_value l ∷ [];
         coordinates = take (length l.coordinates - 1) l.coordinates ++ w ∷ [];
         values = suc w;
       }
 
   -- the coordinates of level f without fiber on level f + 1
-  abbrev pub drop_fiber : ℕ → ℕ → Levels → Made
-  drop_fiber gone f l = record {
+  abbrev pub drop_fiber : ℕ → Levels → Made
+  drop_fiber f l = record {
     kind = kind.DropFiber;
     ins = level_at l.coordinates f ∷ level_at l.coordinates (suc f) ∷ [];
-    labels = reduced_tree_label term gone f f Coordinate ∷ reduced_tree_label term gone f (suc f) Coordinate ∷ [];
+    labels = pruned_tree_label trees f f Coordinate ∷ pruned_tree_label trees f (suc f) Coordinate ∷ [];
   }
 
-  abbrev pub without_fibers : ℕ → ℕ → Levels → Levels
-  without_fibers gone f l =
+  abbrev pub without_fibers : ℕ → Levels → Levels
+  without_fibers f l =
       let w = outputs_of l.made in
       record {
-        made = l.made ++ drop_fiber gone f l ∷ [];
+        made = l.made ++ drop_fiber f l ∷ [];
         coordinates = set (set l.coordinates (f - 1) w) f (suc w);
         values = l.values;
       }
 
   -- on level f first, and then on each level before it
-  abbrev pub emptied : ℕ → ℕ → Levels → Levels
-  emptied gone zero l = l
-  emptied gone (suc f) l = emptied gone f (without_fibers gone (suc f) l)
+  abbrev pub emptied : ℕ → Levels → Levels
+  emptied zero l = l
+  emptied (suc f) l = emptied f (without_fibers (suc f) l)
 
-  abbrev pub pruned_below : ℕ → ℕ → Levels → Levels
-  pruned_below gone zero l = l
-  pruned_below gone (suc f) l = emptied gone f (without_values gone l)
+  abbrev pub pruned_below : ℕ → Levels → Levels
+  pruned_below zero l = l
+  pruned_below (suc f) l = emptied f (without_values l)
 
   -- a result without levels keeps its value, also where it has none
-  abbrev pub pruned : ℕ → Levels → Levels
-  pruned gone l = pruned_below gone (length l.coordinates) l
+  abbrev pub pruned : Levels → Levels
+  pruned l = pruned_below (length l.coordinates) l

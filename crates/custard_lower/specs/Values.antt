@@ -12,12 +12,14 @@ use Rattle.label_rules.specs.declared.plans.Plan.{Plan}
 pub use Rattle.custard_lower.specs.declared.values.Valued.{Valued}
 use Rattle.custard_lower.specs.Drafts.{outputs_of}
 use Rattle.label_rules.specs.Plans.{plan_access, asked}
-use Rattle.custard_lower.specs.Nests.{product_tree_label}
+use Rattle.label_rules.specs.Masks.{factors_mask}
+use Rattle.custard_lower.specs.declared.trees.TermTrees.{TermTrees}
+use Rattle.custard_lower.specs.Trees.{bottom_tree}
 
-module _ (term : ℕ) (t : Plan) where
+module _ (trees : TermTrees) (t : Plan) where
   -- below all loops
   abbrev pub full_label : Attr → Label
-  full_label attr = product_tree_label term (length t.on_left) (asked t (length t.on_left - 1)) attr
+  full_label attr = record { tree = bottom_tree trees (length t.on_left) (factors_mask (asked t (length t.on_left - 1))); attr = attr }
 
   abbrev pub array : List ℕ → ℕ → Made
   array references f = record {

@@ -22,7 +22,7 @@ pub struct Made {
 
 /// Blocks as they are made, with the number of their outputs.
 #[derive(Drop)]
-pub(crate) struct Draft {
+pub struct Draft {
     alloc: Global,
     made: Items<Made>,
     outputs: u64,

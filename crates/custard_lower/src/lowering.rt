@@ -1,19 +1,20 @@
 //! The blocks of a program, in the order in which they are made.
 
-ghost use Rattle.std.specs.Prelude.{◌≡◌, ◌≤◌, ◌++◌, true, length, map, drop, IfOk};
+ghost use Rattle.std.specs.Prelude.{◌≡◌, ◌≤◌, ◌++◌, [], ◌∷◌, true, length, map, drop, IfOk};
 ghost use Rattle.sam_model.specs.Accepted.{term_fits};
 ghost use Rattle.sam_model.specs.Program.{accepted};
 ghost use Rattle.label_rules.specs.Plans.{PlanIsSmall, left_marks};
-ghost use Rattle.custard_lower.specs.Lowering.{summed_levels, term_levels, with_writers, first_level_tree, part, with_term, with_terms, program_draft};
+ghost use Rattle.custard_lower.specs.Lowering.{root, summed_nest, term_levels, with_writers, first_level_tree, part, with_term, with_terms, program_draft};
 
 use crate::drafts::{Draft, Made};
 use crate::nests::Nest;
 use crate::plans::NumberedPlan;
 use crate::reductions::{Levels, free_loops};
+use crate::trees::{PrunedTrees, TermTrees};
 use crate::unions::{Part, join};
 use crate::values::Valued;
 use graph::Kind;
-use label_rules::term_plan;
+use label_rules::{Plan, term_plan};
 use sam_base::Items;
 use sam_model::{Program, Term};
 use std::alloc::{AllocError, Global};
@@ -39,41 +40,61 @@ impl Levels {
     }
 }
 
-/// The loops of a term, its values, and the sums over its loops that aren't on the left.
-fn summed(t: &NumberedPlan, made: Draft) -> Result<Levels, AllocError>
-    requires { PlanIsSmall t.now.plan.now }
-    ensures summed { IfOk result (λ levels. levels ≡ summed_levels t.now.term t.now.plan.now made) }
-    ensures count { IfOk result (λ levels. length levels.coordinates ≡ left_marks t.now.plan.now.on_left) }
-    ensures few { IfOk result (λ levels. length levels.coordinates ≤ 8) }
-{
-    let Nest {
-        made,
-        coordinates,
-        references,
-    } = t.nest(made)?;
-    let Valued { made, values } = t.valued(made, references.as_slice())?;
-    let levels = Levels {
-        made,
-        coordinates,
-        values,
-    };
-    levels.reduced(t.term, t.plan.on_left.as_slice())
+impl<'a> NumberedPlan<'a> {
+    /// After the loops of a term, its values, and the sums over its loops that aren't on the left.
+    pub fn summed(&self, nest: Nest) -> Result<Levels, AllocError>
+        requires small { PlanIsSmall self.now.plan.now }
+        requires references { length nest.references ≡ length self.now.plan.now.accesses }
+        requires levels { length nest.coordinates ≡ length self.now.plan.now.on_left }
+        ensures summed { IfOk result (λ levels. levels ≡ summed_nest self.now.trees self.now.plan.now nest) }
+        ensures count { IfOk result (λ levels. length levels.coordinates ≡ left_marks self.now.plan.now.on_left) }
+        ensures few { IfOk result (λ levels. length levels.coordinates ≤ 8) }
+    {
+        let Nest {
+            made,
+            coordinates,
+            references,
+        } = nest;
+        let Valued { made, values } = self.valued(made, references.as_slice())?;
+        let levels = Levels {
+            made,
+            coordinates,
+            values,
+        };
+        levels.reduced(self.trees, self.plan.on_left.as_slice())
+    }
 }
 
-/// The same without what has no value.
-fn lowered_term(t: &NumberedPlan, made: Draft) -> Result<Levels, AllocError>
-    requires { PlanIsSmall t.now.plan.now }
-    ensures lowered { IfOk result (λ levels. levels ≡ term_levels t.now.term t.now.plan.now made) }
-    ensures count { IfOk result (λ levels. length levels.coordinates ≡ left_marks t.now.plan.now.on_left) }
+/// The blocks of a term, without what has no value.
+fn lowered_term(term: u8, plan: &Plan, made: Draft) -> Result<Levels, AllocError>
+    requires { PlanIsSmall plan.now }
+    ensures lowered { IfOk result (λ levels. levels ≡ term_levels term plan.now made) }
+    ensures count { IfOk result (λ levels. length levels.coordinates ≡ left_marks plan.now.on_left) }
     ensures few { IfOk result (λ levels. length levels.coordinates ≤ 8) }
 {
-    let levels = summed(t, made)?;
-    levels.pruned(t.term, free_loops(t.plan.on_left.as_slice()))
+    let trees = TermTrees::Own { term };
+    let numbered = NumberedPlan { trees, plan };
+    let levels = numbered.summed(numbered.nest(made)?)?;
+    let gone = free_loops(plan.on_left.as_slice());
+    levels.pruned(PrunedTrees::OfTerm { term, gone })
+}
+
+/// A draft with the root, whose output is every factor's reference before the first loop.
+pub fn rooted(alloc: Global) -> Result<Draft, AllocError>
+    ensures { IfOk result (λ made. made ≡ root ∷ []) }
+{
+    let root = Label {
+        tree: Tree::Root,
+        attr: Attr::Literal(0),
+    };
+    let mut made = Draft::new(alloc);
+    made.emit(Kind::Root, &[], &[root])?;
+    Ok(made)
 }
 
 #[tactic(auto, using(crate::proofs::term::Blocks::blocks_more))]
 /// A writer for each level, and one for the values.
-fn written(levels: Levels) -> Result<Draft, AllocError>
+pub fn with_writers(levels: Levels) -> Result<Draft, AllocError>
     requires { length levels.coordinates ≤ 8 }
     ensures { IfOk result (λ made. made ≡ with_writers levels) }
 {
@@ -93,13 +114,13 @@ fn written(levels: Levels) -> Result<Draft, AllocError>
 }
 
 /// The tree of the first level of a term.
-fn first_tree(t: &NumberedPlan) -> Tree
-    requires { PlanIsSmall t.now.plan.now }
-    ensures { result ≡ first_level_tree t.now.term t.now.plan.now }
+fn first_tree(term: u8, plan: &Plan) -> Tree
+    requires { PlanIsSmall plan.now }
+    ensures { result ≡ first_level_tree term plan.now }
 {
     Tree::Reduced {
-        term: t.term,
-        gone: free_loops(t.plan.on_left.as_slice()),
+        term,
+        gone: free_loops(plan.on_left.as_slice()),
         prune: 1,
         depth: 1,
     }
@@ -121,12 +142,8 @@ fn joined_term(
     ensures count { IfOk result (λ more. length more.coordinates ≡ length levels.coordinates) }
 {
     let plan = term_plan(levels.made.alloc(), p, false, t)?;
-    let numbered = NumberedPlan {
-        term: n,
-        plan: &plan,
-    };
     let (made, left) = levels.apart(tree);
-    let (made, right) = lowered_term(&numbered, made)?.apart(first_tree(&numbered));
+    let (made, right) = lowered_term(n, &plan, made)?.apart(first_tree(n, &plan));
     join(n, t.minus, made, &left, &right)
 }
 
@@ -156,17 +173,7 @@ pub(crate) fn draft(alloc: Global, p: &Program) -> Result<Items<Made>, AllocErro
     ensures { IfOk result (λ made. made ≡ program_draft p.now) }
 {
     let plan = term_plan(alloc, p, true, p.terms.get(0))?;
-    let root = Label {
-        tree: Tree::Root,
-        attr: Attr::Literal(0),
-    };
-    let mut made = Draft::new(alloc);
-    made.emit(Kind::Root, &[], &[root])?;
-    let first = NumberedPlan {
-        term: 0,
-        plan: &plan,
-    };
-    let levels = lowered_term(&first, made)?;
-    let levels = joined_terms(p, first_tree(&first), levels)?;
-    Ok(written(levels)?.into_made())
+    let levels = lowered_term(0, &plan, rooted(alloc)?)?;
+    let levels = joined_terms(p, first_tree(0, &plan), levels)?;
+    Ok(with_writers(levels)?.into_made())
 }

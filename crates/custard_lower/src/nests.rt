@@ -11,10 +11,11 @@ ghost use Rattle.custard_lower.specs.Nests.{product_tree_label, placed, scan, in
 
 use crate::drafts::Draft;
 use crate::plans::NumberedPlan;
+use crate::trees::TermTrees;
 use graph::Kind;
 use sam_base::{Items, Nums};
 use std::alloc::{AllocError, Global};
-use stream_model::{Attr, Label, Tree};
+use stream_model::{Attr, Label};
 
 /// What is met so far of a level: these factors, and the outputs with the coordinates and with each factor's references.
 #[derive(Drop)]
@@ -26,14 +27,14 @@ pub(crate) struct Met {
 
 /// A draft so far, and the outputs with the final coordinates of each level and with each factor's references.
 #[derive(Drop)]
-pub(crate) struct Nest {
+pub struct Nest {
     pub made: Draft,
     pub coordinates: Nums,
     pub references: Nums,
 }
 
 /// The number whose bit f is set for each of these factors f.
-fn mask_number(factors: &[u8]) -> u8
+pub(crate) fn mask_number(factors: &[u8]) -> u8
     requires { All (λ f. f < 8) factors.now }
     ensures { result ≡ factors_mask factors.now }
 {
@@ -45,28 +46,29 @@ fn mask_number(factors: &[u8]) -> u8
 }
 
 /// A label of the product tree of a term down to a level, which these factors restrict.
-pub(crate) fn product_label(term: u8, level: u8, factors: &[u8], attr: Attr) -> Label
+fn product_label(trees: TermTrees, level: u8, factors: &[u8], attr: Attr) -> Label
     requires { All (λ f. f < 8) factors.now }
-    ensures { result ≡ product_tree_label term level factors.now attr }
+    ensures { result ≡ product_tree_label trees level factors.now attr }
 {
     Label {
-        tree: Tree::Product {
-            term,
-            level,
-            mask: mask_number(factors),
-        },
+        tree: trees.product(level, mask_number(factors)),
         attr,
     }
 }
 
 /// The labels of the coordinates and of the references of these factors.
-fn head_labels(alloc: Global, term: u8, level: u8, factors: &[u8]) -> Result<Vec<Label>, AllocError>
+fn head_labels(
+    alloc: Global,
+    trees: TermTrees,
+    level: u8,
+    factors: &[u8],
+) -> Result<Vec<Label>, AllocError>
     requires { All (λ f. f < 8) factors.now }
-    ensures { IfOk result (λ labels. labels.items ≡ product_tree_label term level factors.now Coordinate ∷ map (λ f. product_tree_label term level factors.now (Rank f)) factors.now) }
+    ensures { IfOk result (λ labels. labels.items ≡ product_tree_label trees level factors.now Coordinate ∷ map (λ f. product_tree_label trees level factors.now (Rank f)) factors.now) }
 {
-    let mut labels = vec![in alloc; product_label(term, level, factors, Attr::Coordinate)]?;
+    let mut labels = vec![in alloc; product_label(trees, level, factors, Attr::Coordinate)]?;
     for f in factors {
-        labels.push(product_label(term, level, factors, Attr::Rank(*f)))?;
+        labels.push(product_label(trees, level, factors, Attr::Rank(*f)))?;
     }
     Ok(labels)
 }
@@ -155,13 +157,13 @@ impl<'a> NumberedPlan<'a> {
         requires within { d < 8 }
         requires access { f < length self.now.plan.now.accesses }
         requires references { length references.now ≡ length self.now.plan.now.accesses }
-        ensures made { OnOk result (made.new ≡ made.old ++ scan self.now.term self.now.plan.now d references.now f ∷ []) }
+        ensures made { OnOk result (made.new ≡ made.old ++ scan self.now.trees self.now.plan.now d references.now f ∷ []) }
         ensures count { OnOk result (outputs_of made.new ≡ outputs_of made.old + 2) }
         ensures room { OnOk result (outputs_of made.new < 2 ^ 64) }
     {
         let access = self.plan.access(f as usize);
         let level = count_levels(access.has.as_slice(), d) + 1;
-        let labels = head_labels(made.alloc(), self.term, (d + 1) as u8, &[f])?;
+        let labels = head_labels(made.alloc(), self.trees, (d + 1) as u8, &[f])?;
         let kind = Kind::Scan {
             tensor: access.tensor,
             level: level as u8,
@@ -184,14 +186,14 @@ impl<'a> NumberedPlan<'a> {
         requires below { All (λ g. g < 8) met.factors }
         requires few { length met.factors < 8 }
         requires room { w + 1 < 2 ^ 64 }
-        ensures made { OnOk result (made.new ≡ made.old ++ intersect self.now.term self.now.plan.now d met f w ∷ []) }
-        ensures met { IfOk result (λ more. more ≡ met_with self.now.term self.now.plan.now met f (outputs_of made.old)) }
+        ensures made { OnOk result (made.new ≡ made.old ++ intersect self.now.trees self.now.plan.now d met f w ∷ []) }
+        ensures met { IfOk result (λ more. more ≡ met_with self.now.trees self.now.plan.now met f (outputs_of made.old)) }
     {
         let ins = met.ins_with(made.alloc(), w)?;
         let Met { mut factors, .. } = met;
         let payloads = factors.len();
         factors.push(f)?;
-        let labels = head_labels(made.alloc(), self.term, (d + 1) as u8, factors.as_slice())?;
+        let labels = head_labels(made.alloc(), self.trees, (d + 1) as u8, factors.as_slice())?;
         let kind = Kind::Intersect {
             left: payloads as u32,
             right: 1,
@@ -220,8 +222,8 @@ impl<'a> NumberedPlan<'a> {
         requires below { All (λ f. f < 8) factors.now }
         requires few { length met.factors + length factors.now ≤ 8 }
         requires room { w + 2 * length factors.now < 2 ^ 64 }
-        ensures made { OnOk result (made.new ≡ (all_met self.now.term self.now.plan.now d made.old met w factors.now).made) }
-        ensures met { IfOk result (λ last. last ≡ (all_met self.now.term self.now.plan.now d made.old met w factors.now).met) }
+        ensures made { OnOk result (made.new ≡ (all_met self.now.trees self.now.plan.now d made.old met w factors.now).made) }
+        ensures met { IfOk result (λ last. last ≡ (all_met self.now.trees self.now.plan.now d made.old met w factors.now).met) }
         ensures factors { IfOk result (λ last. last.factors ≡ met.factors ++ factors.now) }
     {
         let mut met = met;
@@ -239,8 +241,8 @@ impl<'a> NumberedPlan<'a> {
         requires below { All (λ f. f < 8) factors.now }
         requires few { length factors.now ≤ 8 }
         requires room { w + 2 * length factors.now < 2 ^ 64 }
-        ensures made { OnOk result (made.new ≡ (all_met self.now.term self.now.plan.now d made.old (first_met self.now.term self.now.plan.now factors.now w) (suc (suc w)) (drop 1 factors.now)).made) }
-        ensures met { IfOk result (λ met. met ≡ (all_met self.now.term self.now.plan.now d made.old (first_met self.now.term self.now.plan.now factors.now w) (suc (suc w)) (drop 1 factors.now)).met) }
+        ensures made { OnOk result (made.new ≡ (all_met self.now.trees self.now.plan.now d made.old (first_met self.now.trees self.now.plan.now factors.now w) (suc (suc w)) (drop 1 factors.now)).made) }
+        ensures met { IfOk result (λ met. met ≡ (all_met self.now.trees self.now.plan.now d made.old (first_met self.now.trees self.now.plan.now factors.now w) (suc (suc w)) (drop 1 factors.now)).met) }
         ensures factors { IfOk result (λ met. met.factors ≡ factors.now) }
     {
         match factors {
@@ -267,12 +269,12 @@ impl<'a> NumberedPlan<'a> {
         requires references { length references.now ≡ length self.now.plan.now.accesses }
         requires asked { met.now.factors ≡ asked self.now.plan.now d }
         requires below { All (λ g. g < 8) met.now.factors }
-        ensures made { OnOk result (made.new ≡ made.old ++ repeat self.now.term self.now.plan.now d met.now.coordinates references.now f ∷ []) }
+        ensures made { OnOk result (made.new ≡ made.old ++ repeat self.now.trees self.now.plan.now d met.now.coordinates references.now f ∷ []) }
         ensures count { OnOk result (outputs_of made.new ≡ outputs_of made.old + 1) }
         ensures room { OnOk result (outputs_of made.new < 2 ^ 64) }
     {
         let label = product_label(
-            self.term,
+            self.trees,
             (d + 1) as u8,
             met.factors.as_slice(),
             Attr::Rank(f),
@@ -294,7 +296,7 @@ impl<'a> NumberedPlan<'a> {
         requires within { d < 8 }
         requires references { length references.now ≡ length self.now.plan.now.accesses }
         requires below { All (λ f. f < length self.now.plan.now.accesses) factors.now }
-        ensures made { OnOk result (made.new ≡ made.old ++ map (scan self.now.term self.now.plan.now d references.now) factors.now) }
+        ensures made { OnOk result (made.new ≡ made.old ++ map (scan self.now.trees self.now.plan.now d references.now) factors.now) }
         ensures first { IfOk result (λ w. w ≡ outputs_of made.old) }
         ensures room { IfOk result (λ w. w + 2 * length factors.now < 2 ^ 64) }
     {
@@ -320,7 +322,7 @@ impl<'a> NumberedPlan<'a> {
         requires below { All (λ f. f < length self.now.plan.now.accesses) factors.now }
         requires asked { met.now.factors ≡ asked self.now.plan.now d }
         requires asked_below { All (λ g. g < 8) met.now.factors }
-        ensures made { OnOk result (made.new ≡ made.old ++ map (repeat self.now.term self.now.plan.now d met.now.coordinates references.now) factors.now) }
+        ensures made { OnOk result (made.new ≡ made.old ++ map (repeat self.now.trees self.now.plan.now d met.now.coordinates references.now) factors.now) }
         ensures first { IfOk result (λ w. w ≡ outputs_of made.old) }
         ensures room { IfOk result (λ w. w + length factors.now < 2 ^ 64) }
     {
@@ -332,11 +334,11 @@ impl<'a> NumberedPlan<'a> {
     }
 
     /// Adds the level below d loops: its factors are scanned and met, and the references of the others repeated.
-    fn level(&self, nest: Nest, d: usize) -> Result<Nest, AllocError>
+    pub fn level(&self, nest: Nest, d: usize) -> Result<Nest, AllocError>
         requires small { PlanIsSmall self.now.plan.now }
         requires within { d < 8 }
         requires references { length nest.references ≡ length self.now.plan.now.accesses }
-        ensures { IfOk result (λ more. more ≡ level self.now.term self.now.plan.now d nest) }
+        ensures { IfOk result (λ more. more ≡ level self.now.trees self.now.plan.now d nest) }
     {
         let Nest {
             mut made,
@@ -363,11 +365,11 @@ impl<'a> NumberedPlan<'a> {
 
     /// Adds all levels. Before the first, each factor's reference is the root's output.
     #[tactic(auto, using(crate::proofs::term::Nesting::next_level, crate::proofs::term::Nesting::references_kept, crate::proofs::term::Nesting::levels_counted))]
-    pub(crate) fn nest(&self, made: Draft) -> Result<Nest, AllocError>
+    pub fn nest(&self, made: Draft) -> Result<Nest, AllocError>
         requires { PlanIsSmall self.now.plan.now }
         ensures references { IfOk result (λ whole. length whole.references ≡ length self.now.plan.now.accesses) }
         ensures levels { IfOk result (λ whole. length whole.coordinates ≡ length self.now.plan.now.on_left) }
-        ensures nest { IfOk result (λ whole. whole ≡ nest self.now.term self.now.plan.now (length self.now.plan.now.on_left) made) }
+        ensures nest { IfOk result (λ whole. whole ≡ nest self.now.trees self.now.plan.now (length self.now.plan.now.on_left) made) }
     {
         let alloc = made.alloc();
         let roots = vec![in alloc; 0; self.plan.accesses.len()]?;

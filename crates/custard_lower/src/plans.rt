@@ -1,9 +1,10 @@
-//! A term with its number.
+//! A term with the trees that its labels name.
 
+use crate::trees::TermTrees;
 use label_rules::Plan;
 
 #[derive(Clone, Copy, Drop)]
-pub(crate) struct NumberedPlan<'a> {
-    pub term: u8,
+pub struct NumberedPlan<'a> {
+    pub trees: TermTrees,
     pub plan: &'a Plan,
 }

@@ -7,7 +7,7 @@ ghost use Rattle.label_rules.specs.Plans.{PlanIsSmall};
 ghost use Rattle.custard_lower.specs.Values.{full_label, array, arrays, product, multiplied, scaled, valued};
 
 use crate::drafts::Draft;
-use crate::nests::product_label;
+use crate::nests::mask_number;
 use crate::plans::NumberedPlan;
 use graph::Kind;
 use std::alloc::{AllocError, Global};
@@ -15,7 +15,7 @@ use stream_model::{Attr, Label};
 
 /// A draft so far, and the output with the values.
 #[derive(Drop)]
-pub(crate) struct Valued {
+pub struct Valued {
     pub made: Draft,
     pub values: u64,
 }
@@ -24,11 +24,14 @@ impl<'a> NumberedPlan<'a> {
     /// A label below all loops.
     fn full_label(&self, alloc: Global, attr: Attr) -> Result<Label, AllocError>
         requires { PlanIsSmall self.now.plan.now }
-        ensures { IfOk result (λ label. label ≡ full_label self.now.term self.now.plan.now attr) }
+        ensures { IfOk result (λ label. label ≡ full_label self.now.trees self.now.plan.now attr) }
     {
         let loops = self.plan.on_left.len();
         let last = self.plan.asked(alloc, loops.saturating_sub(1))?;
-        Ok(product_label(self.term, loops as u8, &last, attr))
+        Ok(Label {
+            tree: self.trees.bottom(loops as u8, mask_number(&last)),
+            attr,
+        })
     }
 
     /// The values of an access.
@@ -36,7 +39,7 @@ impl<'a> NumberedPlan<'a> {
         requires small { PlanIsSmall self.now.plan.now }
         requires access { f < length self.now.plan.now.accesses }
         requires references { length references.now ≡ length self.now.plan.now.accesses }
-        ensures made { OnOk result (made.new ≡ made.old ++ array self.now.term self.now.plan.now references.now f ∷ []) }
+        ensures made { OnOk result (made.new ≡ made.old ++ array self.now.trees self.now.plan.now references.now f ∷ []) }
         ensures count { OnOk result (outputs_of made.new ≡ outputs_of made.old + 1) }
         ensures room { OnOk result (outputs_of made.new < 2 ^ 64) }
     {
@@ -53,7 +56,7 @@ impl<'a> NumberedPlan<'a> {
     fn arrays(&self, made: &mut Draft, references: &[u64]) -> Result<u64, AllocError>
         requires small { PlanIsSmall self.now.plan.now }
         requires references { length references.now ≡ length self.now.plan.now.accesses }
-        ensures made { OnOk result (made.new ≡ arrays self.now.term self.now.plan.now made.old references.now) }
+        ensures made { OnOk result (made.new ≡ arrays self.now.trees self.now.plan.now made.old references.now) }
         ensures first { IfOk result (λ w. w ≡ outputs_of made.old) }
         ensures room { IfOk result (λ w. w + length self.now.plan.now.accesses < 2 ^ 64) }
     {
@@ -74,7 +77,7 @@ impl<'a> NumberedPlan<'a> {
     ) -> Result<u64, AllocError>
         requires small { PlanIsSmall self.now.plan.now }
         requires access { k < length self.now.plan.now.accesses }
-        ensures made { OnOk result (made.new ≡ made.old ++ product self.now.term self.now.plan.now k values value ∷ []) }
+        ensures made { OnOk result (made.new ≡ made.old ++ product self.now.trees self.now.plan.now k values value ∷ []) }
         ensures first { IfOk result (λ w. w ≡ outputs_of made.old) }
     {
         let label = self.full_label(made.alloc(), Attr::Partial((k + 1) as u8))?;
@@ -86,7 +89,7 @@ impl<'a> NumberedPlan<'a> {
     fn multiplied(&self, made: Draft, w: u64) -> Result<Valued, AllocError>
         requires small { PlanIsSmall self.now.plan.now }
         requires room { w + length self.now.plan.now.accesses < 2 ^ 64 }
-        ensures { IfOk result (λ v. v ≡ multiplied self.now.term self.now.plan.now (record { made = made; values = w }) (suc w) (range_with_len 1 (length self.now.plan.now.accesses - 1))) }
+        ensures { IfOk result (λ v. v ≡ multiplied self.now.trees self.now.plan.now (record { made = made; values = w }) (suc w) (range_with_len 1 (length self.now.plan.now.accesses - 1))) }
     {
         let mut valued = Valued { made, values: w };
         for k in 1..self.plan.accesses.len() {
@@ -98,7 +101,7 @@ impl<'a> NumberedPlan<'a> {
     /// Multiplies the values with the coefficient, where there is one.
     fn scaled(&self, valued: Valued) -> Result<Valued, AllocError>
         requires { PlanIsSmall self.now.plan.now }
-        ensures { IfOk result (λ v. v ≡ scaled self.now.term self.now.plan.now self.now.plan.now.coefficient valued) }
+        ensures { IfOk result (λ v. v ≡ scaled self.now.trees self.now.plan.now self.now.plan.now.coefficient valued) }
     {
         let Some(c) = self.plan.coefficient else {
             return Ok(valued);
@@ -112,10 +115,10 @@ impl<'a> NumberedPlan<'a> {
     }
 
     /// An array for each access, their product, and the coefficient.
-    pub(crate) fn valued(&self, made: Draft, references: &[u64]) -> Result<Valued, AllocError>
+    pub fn valued(&self, made: Draft, references: &[u64]) -> Result<Valued, AllocError>
         requires small { PlanIsSmall self.now.plan.now }
         requires references { length references.now ≡ length self.now.plan.now.accesses }
-        ensures { IfOk result (λ v. v ≡ valued self.now.term self.now.plan.now made references.now) }
+        ensures { IfOk result (λ v. v ≡ valued self.now.trees self.now.plan.now made references.now) }
     {
         let mut made = made;
         let first = self.arrays(&mut made, references)?;

@@ -134,7 +134,7 @@ fn blocks_of(
 /// The graph of a draft: its blocks, then a drain for each output that has no reader, and a cast for each that has two or more.
 ///
 /// It takes time in proportion to the draft.
-pub(crate) fn graph_of(alloc: Global, made: &Items<Made>) -> Result<Graph, AllocError>
+pub fn graph_of(alloc: Global, made: &Items<Made>) -> Result<Graph, AllocError>
     requires within { ReadsWithin made.now }
     requires small { DraftIsSmall made.now }
     ensures { IfOk result (λ g. g ≡ graph_of made.now) }

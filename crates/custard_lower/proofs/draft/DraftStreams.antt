@@ -1,26 +1,26 @@
--- The whole streams of the graph of a draft whose blocks give the streams of their labels, and its writers.
+-- The writers of the graph of a draft, and the whole streams at its blocks, where each channel carries the stream of its label.
 use Rattle.std.specs.Prelude.{◌≡◌, ◌<◌, ℕ, Bool, List, length}
-use Rattle.std.specs.List.{All, position_or_len}
+use Rattle.std.specs.List.{position_or_len}
 use mathlib.Core.List.{map}
 use Rattle.std.proofs.Common.{arith, sym, ◌∙◌, ap}
 use Rattle.std.proofs.lemmas.List.Sums.{position_or_len_is, fails_before_first, passes_at_first}
 use Rattle.stream_tokens.specs.declared.Token.{Token}
-use Rattle.stream_tokens.specs.Nest.{IsStream}
+use Rattle.stream_tokens.proofs.Algebra.{map-map}
 use Rattle.sam_model.specs.Children.{Ranked}
 use Rattle.stream_model.specs.declared.labels.Label.{Label}
 use Rattle.graph.specs.declared.graphs.Kind.{Kind}
 use Rattle.graph.specs.declared.graphs.Block.{Block}
-use Rattle.graph.specs.Wiring.{no_block, block, channel, WellFormed}
-use Rattle.graph.specs.WholeStreams.{whole_stream, whole_inputs, Consistent}
+use Rattle.graph.specs.Wiring.{no_block, block}
+use Rattle.graph.specs.WholeStreams.{whole_stream, whole_inputs}
 use Rattle.graph.specs.Writers.{first_block}
-use Rattle.graph.specs.Laws.{Carried}
-use Rattle.graph.proofs.Carried.{carried-whole, carried-inputs, carried-consistent}
+use Rattle.graph.proofs.Streams.{map-agree}
 use Rattle.custard_lower.specs.declared.drafts.Made.{Made}
-use Rattle.custard_lower.specs.Drafts.{labels_of}
+use Rattle.custard_lower.specs.Drafts.{label_at}
+use Rattle.label_rules.specs.Holding.{label_on, Rules, LabelsHold}
 use Rattle.custard_lower.specs.DraftGraph.{no_made, made_at, graph_of}
-use Rattle.custard_lower.proofs.draft.Typed.{Typed}
+use Rattle.custard_lower.proofs.draft.Emitted.{Sound}
 use Rattle.custard_lower.proofs.draft.GraphPlaces.{block-of-draft, draft-blocks-within}
-use Rattle.custard_lower.proofs.draft.DraftCarried.{output_stream, channel_stream, draft-inputs, draft-formed, draft-carried}
+use Rattle.custard_lower.proofs.draft.DraftRuled.{Arity, Ends, draft-formed, draft-inputs}
 
 -- ---- kinds
 
@@ -41,30 +41,17 @@ module _ (made : List Made) where
 
 -- ---- streams
 
-module _ (storages : List Ranked) (stream : Label → List Token) (made : List Made)
-    (typed : Typed storages stream (output_stream storages stream made) 0 made)
-    (are : All (λ l. IsStream (stream l)) (labels_of made)) where
-  abbrev channels : ℕ → List Token
-  channels = channel_stream storages stream made
-
-  carries : Carried storages (graph_of made) channels
-  carries = draft-carried storages stream made typed are
-
-  joins : WellFormed (graph_of made)
-  joins = draft-formed storages stream made typed are
-
-  -- every block's whole inputs fit
-  pub draft-consistent : Consistent storages (graph_of made)
-  draft-consistent = carried-consistent storages (graph_of made) channels joins carries
-
-  -- the whole stream of a channel is that of its label
-  pub draft-whole : (c : ℕ) → c < length (graph_of made).channels
-      → stream (channel (graph_of made) c).label ≡ whole_stream storages (graph_of made) c
-  draft-whole = carried-whole storages (graph_of made) channels joins carries
-
-  -- the whole inputs of a block of the draft are the streams of the outputs that it reads
+module _ (rules : Rules) (arity : Arity rules) (ends : Ends rules) (made : List Made) (sound : Sound rules made)
+    (storages : List Ranked) (stream : Label → List Token) (good : Label → Type 0)
+    (holds : LabelsHold storages stream good (graph_of made)) where
+  -- the whole inputs of a block of the draft are the streams of the labels of the outputs that it reads
   pub draft-whole-inputs : (b : ℕ) → b < length made
-      → whole_inputs storages (graph_of made) b ≡ map (output_stream storages stream made) (made_at made b).ins
+      → whole_inputs storages (graph_of made) b ≡ map (λ w. stream (label_at made w)) (made_at made b).ins
   draft-whole-inputs b l =
-      sym (carried-inputs storages (graph_of made) channels joins carries b (omega (arith, l, draft-blocks-within made)))
-      ∙ draft-inputs storages stream made typed are b l
+      let g = graph_of made in
+      let w = draft-formed rules arity ends made sound in
+      map-agree (whole_stream storages g) (λ c. stream (label_on g c)) (block g b).ins
+      (λ q i. holds.labels _ (w.in_named b q (omega (arith, l, draft-blocks-within made)) i).0)
+      ∙ sym (map-map stream (label_on g) (block g b).ins)
+      ∙ ap (map stream) (draft-inputs rules arity ends made sound b l)
+      ∙ map-map stream (label_at made) (made_at made b).ins

@@ -2,15 +2,14 @@
 use Rattle.std.specs.Prelude.{◌≡◌, ◌<◌, ◌≤◌, ◌^◌, ℕ, zero, suc, ◌+◌, List, [], ◌∷◌, ◌++◌, length, take, refl}
 use Rattle.std.specs.List.{All, flat_map}
 use Rattle.std.proofs.Common.{arith, ◌∙◌, ap, length-append, take-suc, take_all}
-use Rattle.stream_tokens.specs.declared.Token.{Token}
-use Rattle.sam_model.specs.Children.{Ranked}
 use Rattle.stream_model.specs.declared.labels.Label.{Label}
 use Rattle.custard_lower.specs.declared.drafts.Made.{Made}
 use Rattle.custard_lower.specs.Drafts.{labels_of, outputs_of}
 use Rattle.custard_lower.specs.DraftGraph.{ReadsWithin, DraftIsSmall, no_made, made_at, reads_at, reads_of, graph_of}
 use Rattle.custard_lower.proofs.draft.Pieces.{before}
 use Rattle.custard_lower.proofs.draft.Readers.{block-reads}
-use Rattle.custard_lower.proofs.draft.Typed.{Typed}
+use Rattle.label_rules.specs.Holding.{Rules}
+use Rattle.custard_lower.proofs.draft.Emitted.{Ruled}
 use Rattle.custard_lower.proofs.draft.GraphPlaces.{blocks-end, channels-end}
 use Rattle.custard_lower.proofs.draft.FanSteps.{ending-fits, first-copy-fits}
 
@@ -24,21 +23,19 @@ pub small-channels : (made : List Made) → DraftIsSmall made → length (graph_
 small-channels made small =
     let e = channels-end made in let f = first-copy-fits made small (outputs_of made) in omega (arith, e, f)
 
--- the blocks of a typed draft read outputs that are there
-typed_reads : (storages : List Ranked) (stream : Label → List Token) (streams : ℕ → List Token) (base total : ℕ)
-    (made : List Made)
-    → Typed storages stream streams base made → base + outputs_of made ≤ total → All (λ m. All (λ w. w < total) m.ins) made
-typed_reads storages stream streams base total [] x l k d i = absurd (omega (arith, i))
-typed_reads storages stream streams base total (m ∷ made) x l zero d i =
+-- the blocks of a draft within the rules read outputs that are there
+ruled_reads : (rules : Rules) (labels : ℕ → Label) (base total : ℕ) (made : List Made)
+    → Ruled rules labels base made → base + outputs_of made ≤ total → All (λ m. All (λ w. w < total) m.ins) made
+ruled_reads rules labels base total [] x l k d i = absurd (omega (arith, i))
+ruled_reads rules labels base total (m ∷ made) x l zero d i =
     λ j e n. let here = x.0.earlier j e n in let a = length-append m.labels (labels_of made) in omega (arith, here, l, a)
-typed_reads storages stream streams base total (m ∷ made) x l (suc k) d i =
+ruled_reads rules labels base total (m ∷ made) x l (suc k) d i =
     let a = length-append m.labels (labels_of made) in
-    typed_reads storages stream streams (base + length m.labels) total made x.1 (omega (arith, l, a)) k d (omega (arith, i))
+    ruled_reads rules labels (base + length m.labels) total made x.1 (omega (arith, l, a)) k d (omega (arith, i))
 
--- a typed draft reads outputs that are there
-pub reads-of-typed : (storages : List Ranked) (stream : Label → List Token) (streams : ℕ → List Token) (made : List Made)
-    → Typed storages stream streams 0 made → ReadsWithin made
-reads-of-typed storages stream streams made x = typed_reads storages stream streams 0 (outputs_of made) made x (omega arith)
+-- so the draft does
+pub reads-of-ruled : (rules : Rules) (labels : ℕ → Label) (made : List Made) → Ruled rules labels 0 made → ReadsWithin made
+reads-of-ruled rules labels made x = ruled_reads rules labels 0 (outputs_of made) made x (omega arith)
 
 -- ---- counting
 

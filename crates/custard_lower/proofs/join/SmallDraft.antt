@@ -20,6 +20,10 @@ use Rattle.stream_model.specs.declared.labels.Tree.TheVariants.{Joined, Beside}
 use Rattle.stream_model.proofs.Places.{accepted-terms}
 use Rattle.stream_model.proofs.Depths.{filter-short}
 use Rattle.custard_lower.specs.declared.drafts.Made.{Made}
+use Rattle.custard_lower.specs.declared.trees.TermTrees.{TermTrees}
+use Rattle.custard_lower.specs.declared.trees.TermTrees.TheVariants.{Own}
+use Rattle.custard_lower.specs.declared.trees.PrunedTrees.{PrunedTrees}
+use Rattle.custard_lower.specs.declared.trees.PrunedTrees.TheVariants.{OfTerm}
 use Rattle.label_rules.specs.declared.plans.Plan.{Plan}
 use Rattle.custard_lower.specs.Drafts.{labels_of, outputs_of}
 use Rattle.label_rules.specs.Plans.{plan_of, asked, spared, has_loop, PlanIsSmall, left_marks, free_marks}
@@ -82,23 +86,23 @@ rest-short : (fs : List ℕ) → length (drop 1 fs) ≤ length fs
 rest-short [] = omega arith
 rest-short (f ∷ fs) = omega arith
 
-module _ (term : ℕ) (t : Plan) (small : PlanIsSmall t) where
+module _ (trees : TermTrees) (t : Plan) (small : PlanIsSmall t) where
   -- what is met so far weighs an intersecter of at most so many inputs and outputs
   met-weighs : (d : ℕ) (made : List Made) (met : Met) (w : ℕ) (fs : List ℕ)
       → length met.references ≡ length met.factors → length met.factors + length fs ≤ 8
-      → weight (all_met term t d made met w fs).made ≤ weight made + 20 * length fs
+      → weight (all_met trees t d made met w fs).made ≤ weight made + 20 * length fs
   met-weighs d made met w [] same few = omega arith
   met-weighs d made met w (f ∷ fs) same few =
       let factors = length-append met.factors (f ∷ []) in
-      let next = met_with term t met f (outputs_of made) in
-      let m = intersect term t d met f w in
+      let next = met_with trees t met f (outputs_of made) in
+      let m = intersect trees t d met f w in
       let references : length next.references ≡ suc (length met.factors) = length-range_with_len (suc (outputs_of made)) (suc (length met.factors)) in
       let ins = length-append (met.coordinates ∷ met.references) (w ∷ suc w ∷ []) in
       let rest = met-weighs d (made ++ m ∷ []) next (suc (suc w)) fs (omega (arith, references, factors)) (omega (arith, few, factors)) in
       omega (arith, rest, weight-emit made m, ins, factors, labels_number d met f w, same, few)
     where
-      labels_number : (d : ℕ) (met : Met) (f w : ℕ) → length (intersect term t d met f w).labels ≡ suc (length (met.factors ++ f ∷ []))
-      labels_number d met f w = ap suc (length-map (met.factors ++ f ∷ []) (λ g. product_tree_label term (suc d) (met.factors ++ f ∷ []) (Rank g)))
+      labels_number : (d : ℕ) (met : Met) (f w : ℕ) → length (intersect trees t d met f w).labels ≡ suc (length (met.factors ++ f ∷ []))
+      labels_number d met f w = ap suc (length-map (met.factors ++ f ∷ []) (λ g. product_tree_label trees (suc d) (met.factors ++ f ∷ []) (Rank g)))
 
   asked-few : (d : ℕ) → length (asked t d) ≤ 8
   asked-few d = omega (arith, filter-short (has_loop t d) 0 (length t.accesses), small.accesses)
@@ -106,30 +110,30 @@ module _ (term : ℕ) (t : Plan) (small : PlanIsSmall t) where
   spared-few : (d : ℕ) → length (spared t d) ≤ 8
   spared-few d = omega (arith, filter-short (λ f. not (has_loop t d f)) 0 (length t.accesses), small.accesses)
 
-  scanned-weighs : (d : ℕ) (n : Nest) → weight (scanned term t d n) ≤ weight n.made + 32
+  scanned-weighs : (d : ℕ) (n : Nest) → weight (scanned trees t d n) ≤ weight n.made + 32
   scanned-weighs d n =
       omega (
         arith,
-        weight-append n.made (map (scan term t d n.references) (asked t d)),
-        weight-map (scan term t d n.references) 4 (λ f. omega arith) (asked t d),
+        weight-append n.made (map (scan trees t d n.references) (asked t d)),
+        weight-map (scan trees t d n.references) 4 (λ f. omega arith) (asked t d),
         asked-few d,
       )
 
   first-met : (fs : List ℕ) (w : ℕ)
-      → (length (first_met term t fs w).references ≡ length (first_met term t fs w).factors)
-      × (length (first_met term t fs w).factors + length (drop 1 fs) ≡ length fs)
+      → (length (first_met trees t fs w).references ≡ length (first_met trees t fs w).factors)
+      × (length (first_met trees t fs w).factors + length (drop 1 fs) ≡ length fs)
   first-met [] w = (refl, refl)
   first-met (f ∷ fs) w = (refl, omega arith)
 
-  level-weighs : (d : ℕ) (n : Nest) → weight (level term t d n).made ≤ weight n.made + 256
+  level-weighs : (d : ℕ) (n : Nest) → weight (level trees t d n).made ≤ weight n.made + 256
   level-weighs d n =
       let w = outputs_of n.made in
       let fs = asked t d in
-      let first = first_met term t fs w in
-      let all = all_met term t d (scanned term t d n) first (suc (suc w)) (drop 1 fs) in
+      let first = first_met trees t fs w in
+      let all = all_met trees t d (scanned trees t d n) first (suc (suc w)) (drop 1 fs) in
       let few = first-met fs w in
-      let met = met-weighs d (scanned term t d n) first (suc (suc w)) (drop 1 fs) few.0 (omega (arith, few.1, asked-few d)) in
-      let repeats = map (repeat term t d all.met.coordinates n.references) (spared t d) in
+      let met = met-weighs d (scanned trees t d n) first (suc (suc w)) (drop 1 fs) few.0 (omega (arith, few.1, asked-few d)) in
+      let repeats = map (repeat trees t d all.met.coordinates n.references) (spared t d) in
       omega (
         arith,
         met,
@@ -137,42 +141,42 @@ module _ (term : ℕ) (t : Plan) (small : PlanIsSmall t) where
         weight-append all.made repeats,
         rest-short fs,
         asked-few d,
-        weight-map (repeat term t d all.met.coordinates n.references) 4 (λ f. omega arith) (spared t d),
+        weight-map (repeat trees t d all.met.coordinates n.references) 4 (λ f. omega arith) (spared t d),
         spared-few d,
       )
 
-  nest-weighs : (d : ℕ) (made : List Made) → weight (nest term t d made).made ≤ weight made + 256 * d
+  nest-weighs : (d : ℕ) (made : List Made) → weight (nest trees t d made).made ≤ weight made + 256 * d
   nest-weighs zero made = omega arith
-  nest-weighs (suc d) made = omega (arith, level-weighs d (nest term t d made), nest-weighs d made)
+  nest-weighs (suc d) made = omega (arith, level-weighs d (nest trees t d made), nest-weighs d made)
 
-  multiplied-weighs : (v : Valued) (w : ℕ) (ks : List ℕ) → weight (multiplied term t v w ks).made ≤ weight v.made + 4 * length ks
+  multiplied-weighs : (v : Valued) (w : ℕ) (ks : List ℕ) → weight (multiplied trees t v w ks).made ≤ weight v.made + 4 * length ks
   multiplied-weighs v w [] = omega arith
   multiplied-weighs v w (k ∷ ks) =
-      let m = product term t k v.values w in
+      let m = product trees t k v.values w in
       let more : Valued = record { made = v.made ++ m ∷ []; values = outputs_of v.made } in
       omega (arith, multiplied-weighs more (suc w) ks, weight-emit v.made m)
 
-  scaled-weighs : (c : Option ℕ) (v : Valued) → weight (scaled term t c v).made ≤ weight v.made + 7
+  scaled-weighs : (c : Option ℕ) (v : Valued) → weight (scaled trees t c v).made ≤ weight v.made + 7
   scaled-weighs None v = omega arith
   scaled-weighs (Some c) v =
-      let m = constant term t c v.values in
-      omega (arith, weight-emit v.made m, weight-emit (v.made ++ m ∷ []) (scaling term t v.values (outputs_of v.made)))
+      let m = constant trees t c v.values in
+      omega (arith, weight-emit v.made m, weight-emit (v.made ++ m ∷ []) (scaling trees t v.values (outputs_of v.made)))
 
   -- an array for each factor, their product, and the coefficient
-  valued-weighs : (made : List Made) (references : List ℕ) → weight (valued term t made references).made ≤ weight made + 64
+  valued-weighs : (made : List Made) (references : List ℕ) → weight (valued trees t made references).made ≤ weight made + 64
   valued-weighs made references =
       let w = outputs_of made in
-      let first : Valued = record { made = arrays term t made references; values = w } in
+      let first : Valued = record { made = arrays trees t made references; values = w } in
       let ks = range_with_len 1 (length t.accesses - 1) in
-      let all = map (array term t references) (below (length t.accesses)) in
+      let all = map (array trees t references) (below (length t.accesses)) in
       let number : length (below (length t.accesses)) ≡ length t.accesses = length-range_with_len 0 (length t.accesses) in
       omega (
         arith,
-        scaled-weighs t.coefficient (multiplied term t first (suc w) ks),
+        scaled-weighs t.coefficient (multiplied trees t first (suc w) ks),
         multiplied-weighs first (suc w) ks,
         length-range_with_len 1 (length t.accesses - 1),
         weight-append made all,
-        weight-map (array term t references) 3 (λ f. omega arith) (below (length t.accesses)),
+        weight-map (array trees t references) 3 (λ f. omega arith) (below (length t.accesses)),
         number,
         small.accesses,
       )
@@ -181,16 +185,16 @@ module _ (term : ℕ) (t : Plan) (small : PlanIsSmall t) where
 
   -- a reducer has at most three inputs and three outputs, and leaves at most two levels more than it found
   reduce-weighs : (gone after : ℕ) (l : Levels)
-      → (weight (reduce term gone after l).made ≤ weight l.made + 7)
-      × (length (reduce term gone after l).coordinates ≤ length l.coordinates + 2)
+      → (weight (reduce trees gone after l).made ≤ weight l.made + 7)
+      × (length (reduce trees gone after l).coordinates ≤ length l.coordinates + 2)
   reduce-weighs gone zero l =
-      (omega (arith, weight-emit l.made (sum_scalar term gone l)), omega (arith, short (length l.coordinates - 1) l.coordinates))
+      (omega (arith, weight-emit l.made (sum_scalar trees gone l)), omega (arith, short (length l.coordinates - 1) l.coordinates))
   reduce-weighs gone (suc zero) l = (
-    omega (arith, weight-emit l.made (sum_vector term gone l)),
+    omega (arith, weight-emit l.made (sum_vector trees gone l)),
     omega (arith, short (length l.coordinates - 2) l.coordinates, length-append (take (length l.coordinates - 2) l.coordinates) (outputs_of l.made ∷ [])),
   )
   reduce-weighs gone (suc (suc k)) l = (
-    omega (arith, weight-emit l.made (sum_matrix term gone l)),
+    omega (arith, weight-emit l.made (sum_matrix trees gone l)),
     omega (
       arith,
       short (length l.coordinates - 3) l.coordinates,
@@ -199,33 +203,39 @@ module _ (term : ℕ) (t : Plan) (small : PlanIsSmall t) where
   )
 
   reduced-weighs : (marks : List Bool) (l : Levels)
-      → (weight (reduced term marks l).made ≤ weight l.made + 7 * length marks)
-      × (length (reduced term marks l).coordinates ≤ length l.coordinates + 2 * length marks)
+      → (weight (reduced trees marks l).made ≤ weight l.made + 7 * length marks)
+      × (length (reduced trees marks l).coordinates ≤ length l.coordinates + 2 * length marks)
   reduced-weighs [] l = (omega arith, omega arith)
   reduced-weighs (true ∷ marks) l = let r = reduced-weighs marks l in (omega (arith, r.0), omega (arith, r.1))
   reduced-weighs (false ∷ marks) l =
       let r = reduced-weighs marks l in
-      let one = reduce-weighs (free_marks marks) (left_marks marks) (reduced term marks l) in
+      let one = reduce-weighs (free_marks marks) (left_marks marks) (reduced trees marks l) in
       (omega (arith, r.0, one.0), omega (arith, r.1, one.1))
 
-  emptied-weighs : (gone f : ℕ) (l : Levels)
-      → (weight (emptied term gone f l).made ≤ weight l.made + 5 * f)
-      × (length (emptied term gone f l).coordinates ≡ length l.coordinates)
-  emptied-weighs gone zero l = (omega arith, refl)
-  emptied-weighs gone (suc f) l =
-      let r = emptied-weighs gone f (without_fibers term gone (suc f) l) in
+  -- a nest has so many levels
+  nest-counted : (d : ℕ) (made : List Made) → length (nest trees t d made).coordinates ≡ d
+  nest-counted zero made = refl
+  nest-counted (suc d) made = omega (arith, nest-counted d made, levels_counted trees t d (nest trees t d made))
+
+module _ (trees : PrunedTrees) where
+  emptied-weighs : (f : ℕ) (l : Levels)
+      → (weight (emptied trees f l).made ≤ weight l.made + 5 * f)
+      × (length (emptied trees f l).coordinates ≡ length l.coordinates)
+  emptied-weighs zero l = (omega arith, refl)
+  emptied-weighs (suc f) l =
+      let r = emptied-weighs f (without_fibers trees (suc f) l) in
       let w = outputs_of l.made in
       let once = length-set l.coordinates (suc f - 1) w in
       let twice = length-set (set l.coordinates (suc f - 1) w) (suc f) (suc w) in
-      (omega (arith, r.0, weight-emit l.made (drop_fiber term gone (suc f) l)), omega (arith, r.1, once, twice))
+      (omega (arith, r.0, weight-emit l.made (drop_fiber trees (suc f) l)), omega (arith, r.1, once, twice))
 
-  pruned-weighs : (gone n : ℕ) (l : Levels)
-      → (weight (pruned_below term gone n l).made ≤ weight l.made + 5 * n)
-      × (length (pruned_below term gone n l).coordinates ≤ length l.coordinates + 1)
-  pruned-weighs gone zero l = (omega arith, omega arith)
-  pruned-weighs gone (suc f) l =
-      let r = emptied-weighs gone f (without_values term gone l) in (
-        omega (arith, r.0, weight-emit l.made (drop_value term gone l)),
+  pruned-weighs : (n : ℕ) (l : Levels)
+      → (weight (pruned_below trees n l).made ≤ weight l.made + 5 * n)
+      × (length (pruned_below trees n l).coordinates ≤ length l.coordinates + 1)
+  pruned-weighs zero l = (omega arith, omega arith)
+  pruned-weighs (suc f) l =
+      let r = emptied-weighs f (without_values trees l) in (
+        omega (arith, r.0, weight-emit l.made (drop_value trees l)),
         omega (
           arith,
           r.1,
@@ -234,24 +244,21 @@ module _ (term : ℕ) (t : Plan) (small : PlanIsSmall t) where
         ),
       )
 
-  -- all levels of a term: their number is below 32
-  nest-counted : (d : ℕ) (made : List Made) → length (nest term t d made).coordinates ≡ d
-  nest-counted zero made = refl
-  nest-counted (suc d) made = omega (arith, nest-counted d made, levels_counted term t d (nest term t d made))
-
+-- all blocks of a term, whose levels are fewer than 32
+module _ (term : ℕ) (t : Plan) (small : PlanIsSmall t) where
   term-weighs : (made : List Made)
       → (weight (term_levels term t made).made ≤ weight made + 2400)
       × (length (term_levels term t made).coordinates ≤ 25)
   term-weighs made =
       let loops = length t.on_left in
-      let n = nest term t loops made in
-      let v = valued term t n.made n.references in
+      let n = nest (Own term) t loops made in
+      let v = valued (Own term) t n.made n.references in
       let levels : Levels = record { made = v.made; coordinates = n.coordinates; values = v.values } in
-      let sums = reduced-weighs t.on_left levels in
+      let sums = reduced-weighs (Own term) t small t.on_left levels in
       let l = summed_levels term t made in
-      let rest = pruned-weighs (free_marks t.on_left) (length l.coordinates) l in (
-        omega (arith, nest-weighs loops made, valued-weighs n.made n.references, sums.0, sums.1, rest.0, nest-counted loops made, small.loops),
-        omega (arith, sums.1, rest.1, nest-counted loops made, small.loops),
+      let rest = pruned-weighs (OfTerm term (free_marks t.on_left)) (length l.coordinates) l in (
+        omega (arith, nest-weighs (Own term) t small loops made, valued-weighs (Own term) t small n.made n.references, sums.0, sums.1, rest.0, nest-counted (Own term) t small loops made, small.loops),
+        omega (arith, sums.1, rest.1, nest-counted (Own term) t small loops made, small.loops),
       )
 
 -- ---- joins

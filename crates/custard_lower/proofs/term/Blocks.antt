@@ -4,6 +4,7 @@ use mathlib.Core.List.{map}
 use Rattle.std.specs.List.{range_with_len}
 use Rattle.std.proofs.lemmas.List.FromFn.{map-range_with_len_more}
 use Rattle.custard_lower.specs.declared.drafts.Made.{Made}
+use Rattle.custard_lower.specs.declared.trees.TermTrees.{TermTrees}
 use Rattle.label_rules.specs.declared.plans.Plan.{Plan}
 use Rattle.custard_lower.specs.Drafts.{outputs_of}
 use Rattle.custard_lower.specs.Values.{Valued, product, multiplied}
@@ -17,11 +18,11 @@ blocks_more made block k =
     ap (λ more. made ++ more) (map-range_with_len_more block 0 k k e)
     ∙ sym (append_assoc made (map block (range_with_len 0 k)) (block k ∷ []))
 
-module _ (term : ℕ) (t : Plan) where
+module _ (trees : TermTrees) (t : Plan) where
   -- the product with one factor more
   pub product_next : (v : Valued) (w k n : ℕ) → k < n
-      → multiplied term t v (w + k) (range_with_len k (n - k))
-      ≡ multiplied term t (record { made = v.made ++ product term t k v.values (w + k) ∷ []; values = outputs_of v.made })
+      → multiplied trees t v (w + k) (range_with_len k (n - k))
+      ≡ multiplied trees t (record { made = v.made ++ product trees t k v.values (w + k) ∷ []; values = outputs_of v.made })
       (w + (k + 1))
       (range_with_len (k + 1) (n - (k + 1)))
   product_next v w k n h =
@@ -29,5 +30,5 @@ module _ (term : ℕ) (t : Plan) where
       rw (e, range_further k n h) refl
 
   -- the product of no factor more
-  pub product_ends : (v : Valued) (w k n : ℕ) → n ≤ k → multiplied term t v (w + k) (range_with_len k (n - k)) ≡ v
+  pub product_ends : (v : Valued) (w k n : ℕ) → n ≤ k → multiplied trees t v (w + k) (range_with_len k (n - k)) ≡ v
   product_ends v w k n h = let e : n - k ≡ 0 = omega arith in rw e refl

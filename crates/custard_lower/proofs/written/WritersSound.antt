@@ -1,4 +1,4 @@
--- The writers of a term's levels and values: the draft with them is typed, and which streams reach them.
+-- The writers of levels and values: the draft with them keeps to the rules, and where they stand.
 use Rattle.std.specs.Prelude.{◌≡◌, ◌<◌, ◌≤◌, ◌⊎◌, ℕ, zero, suc, ◌+◌, ◌-◌, false, List, [], ◌∷◌, ◌++◌, length, get_or, refl}
 use Rattle.std.specs.List.{All, position_or_len}
 use mathlib.Core.List.{map}
@@ -8,71 +8,64 @@ use Rattle.std.proofs.lemmas.List.FromFn.{length-range_with_len, get_or-range_wi
 use Rattle.std.proofs.lemmas.List.Sums.{position_or_len_is}
 use lib.ListN.{get_or-append}
 use lib.Seq.{get_or-append_seam}
-use Rattle.stream_tokens.specs.declared.Token.{Token}
-use Rattle.stream_tokens.specs.Nest.{IsStream}
-use Rattle.sam_model.specs.Children.{Ranked}
 use Rattle.sam_model.specs.Lists.{below}
 use Rattle.stream_model.specs.declared.labels.Label.{Label}
-use Rattle.block_core.specs.Kind.{WriteLevelKind}
-use Rattle.block_core.specs.Ports.{AllStreams}
-use Rattle.block_core.proofs.Given.{Gives, writevalue-gives}
 use Rattle.graph.specs.declared.graphs.Kind.{Kind}
 use Rattle.graph.specs.declared.graphs.Kind.TheVariants as kind
 use Rattle.graph.specs.Writers.{writes_level, writes_values}
 use Rattle.custard_lower.specs.declared.drafts.Made.{Made}
-use Rattle.custard_lower.specs.Drafts.{labels_of}
+use Rattle.custard_lower.specs.Drafts.{label_at}
+use Rattle.label_rules.specs.Holding.{Rules}
 use Rattle.custard_lower.specs.DraftGraph.{no_made, made_at}
 use Rattle.custard_lower.specs.Reductions.{Levels}
 use Rattle.custard_lower.specs.Lowering.{level_writer, value_writer, with_writers}
-use Rattle.custard_lower.proofs.draft.Emitted.{at, Stands, Sound, Quiet, is_writer, Extends, extends-same, extends-more, extends-both, stands-on, typed-emit, flowing-emit}
-use Rattle.custard_lower.proofs.draft.Typed.{Typed}
+use Rattle.custard_lower.proofs.draft.Emitted.{Stands, Unwritten, Ruled, Sound, is_writer, Extends, extends-same, extends-more, extends-both, stands-on, sound-emit, ruled-by-others}
 
-module _ (stream : Label → List Token) (storages : List Ranked) (l : Levels) (sound : Sound stream storages l.made) where
+-- no block is a writer
+abbrev Quiet : List Made → Type 0
+Quiet [] = Unit {0}
+Quiet (m ∷ made) = (is_writer m.kind ≡ false) × Quiet made
+
+ruled-quiet : (rules : Rules) (labels : ℕ → Label) (base : ℕ) (made : List Made) → Ruled (Unwritten rules) labels base made → Quiet made
+ruled-quiet rules labels base [] x = tt
+ruled-quiet rules labels base (m ∷ made) x = (x.0.allowed.1, ruled-quiet rules labels (base + length m.labels) made x.1)
+
+module _ (rules : Rules) (l : Levels) (sound : Sound (Unwritten rules) l.made) where
   abbrev writers : List ℕ → List Made
   writers ds = map (level_writer l.coordinates) ds
 
-  -- a stream of coordinates stands on each level's output
+  -- the rules allow a writer of each level what stands on its output
   abbrev pub Writable : List Made → ℕ → Type 0
-  Writable made d =
-      (s : List Token) × (Stands stream made (get_or l.coordinates d 0) s) × (Gives (WriteLevelKind (suc d)) (s ∷ []) [])
+  Writable made d = (c : Label) × (Stands made (get_or l.coordinates d 0) c) × (rules (kind.WriteLevel (suc d)) (c ∷ []) [])
 
-  -- typed, and with streams of trees alone
-  abbrev Written : List Made → Type 0
-  Written made = (Typed storages stream (at stream made) 0 made) × AllStreams (map stream (labels_of made))
-
-  levels_written : (made : List Made) (ds : List ℕ) → Extends l.made made → Written made → All (Writable l.made) ds
-      → Written (made ++ writers ds)
-  levels_written made [] e x each = subst Written (sym (append-nil made)) x
+  levels_written : (made : List Made) (ds : List ℕ) → Extends l.made made → Sound rules made → All (Writable l.made) ds
+      → Sound rules (made ++ writers ds)
+  levels_written made [] e x each = subst (Sound rules) (sym (append-nil made)) x
   levels_written made (d ∷ ds) e x each =
       let b = level_writer l.coordinates d in
       let here = each 0 d (omega arith) in
       let made' = made ++ b ∷ [] in
-      let typed : Typed storages stream (at stream made') 0 made' =
-      typed-emit stream storages made b (here.0 ∷ []) x.0 (stands-on stream l.made made _ _ e here.1, tt) here.2 tt
-      (omega arith) in
-      let flowing = flowing-emit stream storages made b x.1 tt in
-      subst Written (append_assoc made (b ∷ []) (writers ds))
-      (levels_written made' ds (extends-both l.made made made' e (extends-more made (b ∷ []))) (typed, flowing)
+      subst (Sound rules) (append_assoc made (b ∷ []) (writers ds))
+      (levels_written made' ds (extends-both l.made made made' e (extends-more made (b ∷ [])))
+      (sound-emit rules made b (here.0 ∷ []) x (stands-on l.made made _ _ e here.1, tt) here.2)
       (λ k n i. each (suc k) n (omega (arith, i))))
 
-  -- with its writers the draft is typed, and its labels tell streams
-  pub written-typed : (values : List Token) → Stands stream l.made l.values values → IsStream values
-      → ((d : ℕ) → d < length l.coordinates → Writable l.made d) → Written (with_writers l)
-  written-typed values stand is_stream each =
+  -- with its writers the draft keeps to the rules
+  pub written-sound : (values : Label) → Stands l.made l.values values → rules kind.WriteValue (values ∷ []) []
+      → ((d : ℕ) → d < length l.coordinates → Writable l.made d) → Sound rules (with_writers l)
+  written-sound values stand allowed each =
       let made = l.made ++ writers (below (length l.coordinates)) in
       let b = value_writer l.values in
-      let x = levels_written l.made (below (length l.coordinates)) (extends-same l.made) (sound.typed, sound.flowing)
+      let x = levels_written l.made (below (length l.coordinates)) (extends-same l.made)
+      (ruled-by-others (Unwritten rules) rules (λ k ins outs h. h.0) (label_at l.made) 0 l.made sound)
       (λ k n i. let j : k < length l.coordinates = omega (arith, i, length-range_with_len 0 (length l.coordinates)) in
-      subst (Writable l.made) (sym (get_or-range_with_len 0 (length l.coordinates) k n j ∙ omega arith)) (each k j)) in (
-        typed-emit stream storages made b (values ∷ []) x.0
-            (stands-on stream l.made made _ _ (extends-more l.made (writers (below (length l.coordinates)))) stand, tt)
-            (writevalue-gives values (is_stream, tt)) tt (omega arith),
-        flowing-emit stream storages made b x.1 tt,
-      )
+      subst (Writable l.made) (sym (get_or-range_with_len 0 (length l.coordinates) k n j ∙ omega arith)) (each k j)) in
+      sound-emit rules made b (values ∷ []) x
+      (stands-on l.made made _ _ (extends-more l.made (writers (below (length l.coordinates)))) stand, tt) allowed
 
   -- ---- where the writers stand
 
-  quiet_at : (made : List Made) (k : ℕ) → Quiet stream storages made → k < length made → is_writer (made_at made k).kind ≡ false
+  quiet_at : (made : List Made) (k : ℕ) → Quiet made → k < length made → is_writer (made_at made k).kind ≡ false
   quiet_at [] k q i = absurd (omega (arith, i))
   quiet_at (m ∷ made) zero q i = q.0
   quiet_at (m ∷ made) (suc k) q i = quiet_at made k q.1 (omega (arith, i))
@@ -168,7 +161,7 @@ module _ (stream : Label → List Token) (storages : List Ranked) (l : Levels) (
           by_place : (k < length l.made) ⊎ (length l.made ≤ k) → writes_level (suc d) (made_at (with_writers l) k).kind ≡ false
           by_place (inl e) =
               ap (λ (m : Made). writes_level (suc d) m.kind) (early_block k e)
-              ∙ no_level (suc d) (made_at l.made k).kind (quiet_at l.made k sound.quiet e)
+              ∙ no_level (suc d) (made_at l.made k).kind (quiet_at l.made k (ruled-quiet rules (label_at l.made) 0 l.made sound) e)
           by_place (inr e) =
               let n : length l.made + (k - length l.made) ≡ k = omega (arith, e) in
               ap (λ (m : Made). writes_level (suc d) m.kind)
@@ -187,7 +180,7 @@ module _ (stream : Label → List Token) (storages : List Ranked) (l : Levels) (
           by_place : (k < length l.made) ⊎ (length l.made ≤ k) → writes_values (made_at (with_writers l) k).kind ≡ false
           by_place (inl e) =
               ap (λ (m : Made). writes_values m.kind) (early_block k e)
-              ∙ no_values (made_at l.made k).kind (quiet_at l.made k sound.quiet e)
+              ∙ no_values (made_at l.made k).kind (quiet_at l.made k (ruled-quiet rules (label_at l.made) 0 l.made sound) e)
           by_place (inr e) =
               let n : length l.made + (k - length l.made) ≡ k = omega (arith, e) in
               ap (λ (m : Made). writes_values m.kind) (ap (made_at (with_writers l)) (sym n)

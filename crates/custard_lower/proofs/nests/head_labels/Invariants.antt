@@ -5,5 +5,5 @@ use Rattle.custard_lower.proofs.nests.head_labels.Given as goal
 
 abbrev pub invariant-loop-f : goal.invariant-loop-f
 invariant-loop-f l =
-    l.labels.items ++ map (λ f. product_tree_label l.term l.level l.factors (Rank f)) (drop l.f-index l.factors)
-    ≡ product_tree_label l.term l.level l.factors Coordinate ∷ map (λ f. product_tree_label l.term l.level l.factors (Rank f)) l.factors
+    l.labels.items ++ map (λ f. product_tree_label l.trees l.level l.factors (Rank f)) (drop l.f-index l.factors)
+    ≡ product_tree_label l.trees l.level l.factors Coordinate ∷ map (λ f. product_tree_label l.trees l.level l.factors (Rank f)) l.factors

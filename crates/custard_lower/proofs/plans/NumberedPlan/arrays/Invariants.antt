@@ -6,7 +6,7 @@ use Rattle.custard_lower.proofs.plans.NumberedPlan.arrays.Given as goal
 
 abbrev pub invariant-loop-f : goal.invariant-loop-f
 invariant-loop-f l = record {
-  made : l.made ≡ l.fn.made ++ map (array l.self.term l.self.plan.now l.references) (range_with_len 0 l.f);
+  made : l.made ≡ l.fn.made ++ map (array l.self.trees l.self.plan.now l.references) (range_with_len 0 l.f);
   count : outputs_of l.made ≡ l.first + l.f;
   room : outputs_of l.made < 2 ^ 64;
 }

@@ -4,7 +4,7 @@ use Rattle.custard_lower.proofs.plans.NumberedPlan.nest.Given as goal
 
 abbrev pub invariant-loop-d : goal.invariant-loop-d
 invariant-loop-d l = record {
-  nest : l.nest ≡ nest l.self.term l.self.plan.now l.d l.fn.made;
+  nest : l.nest ≡ nest l.self.trees l.self.plan.now l.d l.fn.made;
   references : length l.nest.references ≡ length l.self.plan.now.accesses;
   levels : length l.nest.coordinates ≡ l.d;
 }

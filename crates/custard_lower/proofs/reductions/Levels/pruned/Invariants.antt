@@ -4,6 +4,6 @@ use Rattle.custard_lower.proofs.reductions.Levels.pruned.Given as goal
 
 abbrev pub invariant-loop-f : goal.invariant-loop-f
 invariant-loop-f l = record {
-  pruned : emptied l.term l.gone (l.f - 1) l.self ≡ pruned l.term l.gone l.fn.self;
+  pruned : emptied l.trees (l.f - 1) l.self ≡ pruned l.trees l.fn.self;
   levels : length l.self.coordinates ≡ l.levels;
 }
