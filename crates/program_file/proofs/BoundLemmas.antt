@@ -1,5 +1,5 @@
 -- Variables that are bound, and their places in the loops.
-use Rattle.std.proofs.Common.{◌≡◌, ℕ, zero, suc, ◌+◌, ◌-◌, ◌<◌, ◌≤◌, List, [], ◌∷◌, ◌++◌, length, slice_index, Bool, true, false, not, ◌&&◌, ◌||◌, ◌==◌, cond, Option, Some, None, refl, sym, ap, subst, ◌∙◌, arith, ◌⊎◌, inl, inr, eqb, count_by, fold}
+use Rattle.std.proofs.Common.{◌≡◌, ℕ, zero, suc, ◌+◌, ◌<◌, ◌≤◌, List, [], ◌∷◌, ◌++◌, length, slice_index, Bool, true, false, not, ◌&&◌, ◌||◌, ◌==◌, cond, Option, Some, None, refl, sym, ap, subst, ◌∙◌, arith, ◌⊎◌, inl, inr, eqb, count_by, fold}
 use Rattle.std.specs.List.{list_all, range_with_len}
 use Rattle.std.specs.Str.{bytes_eq}
 use Rattle.std.proofs.Math.Numerals.{one-add}
@@ -12,8 +12,7 @@ use Rattle.sam_model.specs.Lists.{is_in}
 use Rattle.sam_model.specs.Accepted.{is_named, distinct_names, distinct, variables_fit, tensor_passes}
 use Rattle.program_file.specs.declared.accesses.Variable.{Variable}
 use Rattle.program_file.specs.Accesses.{is_variable, is_known, repeated_variable, differs, mismatched, with_variables, tensor_named}
-use Rattle.program_file.specs.Checks.{loop_place, places}
-use Rattle.program_file.specs.Programs.{size_of, tensor_place}
+use Rattle.program_file.specs.Numbers.{place_of, places, name_at, size_of, tensor_place}
 
 pub same-name : (a b : List ℕ) → bytes_eq a b ≡ true → a ≡ b
 same-name a b e = (bytes_eq-Decides a b).0 e
@@ -160,9 +159,9 @@ item-step : (t : Bool) (g : List ℕ → ℕ) (n x : List ℕ) (xs : List (List 
 item-step true g n x xs k e h r = (omega arith, ap g (sym (same-name n x e)))
 item-step false g n x xs k e h r = let p = r h in (omega (arith, p.0), ap (λ i. slice_index (g x ∷ map g xs) i) (one-add k) ∙ p.1)
 
-pub place-item : (g : List ℕ → ℕ) (n : List ℕ) (loops : List (List ℕ)) → is_named n loops ≡ true → (loop_place loops n < length loops) × (slice_index (map g loops) (loop_place loops n) ≡ g n)
+pub place-item : (g : List ℕ → ℕ) (n : List ℕ) (loops : List (List ℕ)) → is_named n loops ≡ true → (place_of loops n < length loops) × (slice_index (map g loops) (place_of loops n) ≡ g n)
 place-item g n [] e = absurd cc
-place-item g n (x ∷ xs) e = item-step (bytes_eq n x) g n x xs (loop_place xs n) refl e (place-item g n xs)
+place-item g n (x ∷ xs) e = item-step (bytes_eq n x) g n x xs (place_of xs n) refl e (place-item g n xs)
 
 place-apart-step : (t u : Bool) (n m x : List ℕ) (xs : List (List ℕ)) (j k : ℕ) → bytes_eq n x ≡ t → bytes_eq m x ≡ u → (t || is_named n xs) ≡ true → cond (not t) (1 + j) 0 ≡ cond (not u) (1 + k) 0 → (is_named n xs ≡ true → j ≡ k → n ≡ m) → n ≡ m
 place-apart-step true true n m x xs j k a b h e r = same-name n x a ∙ sym (same-name m x b)
@@ -170,20 +169,20 @@ place-apart-step true false n m x xs j k a b h e r = absurd (omega (arith, e))
 place-apart-step false true n m x xs j k a b h e r = absurd (omega (arith, e))
 place-apart-step false false n m x xs j k a b h e r = r h (omega (arith, e))
 
-pub place-apart : (n m : List ℕ) (loops : List (List ℕ)) → is_named n loops ≡ true → loop_place loops n ≡ loop_place loops m → n ≡ m
+pub place-apart : (n m : List ℕ) (loops : List (List ℕ)) → is_named n loops ≡ true → place_of loops n ≡ place_of loops m → n ≡ m
 place-apart n m [] h e = absurd cc
-place-apart n m (x ∷ xs) h e = place-apart-step (bytes_eq n x) (bytes_eq m x) n m x xs (loop_place xs n) (loop_place xs m) refl refl h e (place-apart n m xs)
+place-apart n m (x ∷ xs) h e = place-apart-step (bytes_eq n x) (bytes_eq m x) n m x xs (place_of xs n) (place_of xs m) refl refl h e (place-apart n m xs)
 
-pub named-in : (loops : List (List ℕ)) (v : List ℕ) (names : List (List ℕ)) → is_named v names ≡ true → is_in (loop_place loops v) (places loops names) ≡ true
+pub named-in : (loops : List (List ℕ)) (v : List ℕ) (names : List (List ℕ)) → is_named v names ≡ true → is_in (place_of loops v) (places loops names) ≡ true
 named-in loops v [] e = absurd cc
 named-in loops v (n ∷ names) e = elim (or_cases (bytes_eq v n) (is_named v names) e) [
-  | inl h ↦ or_left _ _ (eq-eqb _ _ (ap (λ w. loop_place loops w) (same-name v n h)))
-  | inr h ↦ or_right (eqb (loop_place loops v) (loop_place loops n)) _ (named-in loops v names h)
+  | inl h ↦ or_left _ _ (eq-eqb _ _ (ap (λ w. place_of loops w) (same-name v n h)))
+  | inr h ↦ or_right (eqb (place_of loops v) (place_of loops n)) _ (named-in loops v names h)
 ]
 
-pub in-named : (loops : List (List ℕ)) (v : List ℕ) (names : List (List ℕ)) → is_named v loops ≡ true → is_in (loop_place loops v) (places loops names) ≡ true → is_named v names ≡ true
+pub in-named : (loops : List (List ℕ)) (v : List ℕ) (names : List (List ℕ)) → is_named v loops ≡ true → is_in (place_of loops v) (places loops names) ≡ true → is_named v names ≡ true
 in-named loops v [] k e = absurd cc
-in-named loops v (n ∷ names) k e = elim (or_cases (eqb (loop_place loops v) (loop_place loops n)) _ e) [
+in-named loops v (n ∷ names) k e = elim (or_cases (eqb (place_of loops v) (place_of loops n)) _ e) [
   | inl h ↦ or_left _ _ (name-same v n (place-apart v n loops k (eqb-true _ _ h)))
   | inr h ↦ or_right (bytes_eq v n) _ (in-named loops v names k h)
 ]
@@ -204,7 +203,7 @@ places-fit vars loops h (n ∷ names) (d ∷ dims) e =
     let p = and_parts _ _ e in
     let q = and_parts _ _ p.1 in
     let r = place-item (size_of vars) n loops (h n p.0) in
-    and_from _ _ (lt-ltb _ _ (subst (λ k. loop_place loops n < k) (sym (length-map loops (size_of vars))) r.0)) (and_from _ _ (eq-eqb _ _ (r.1 ∙ eqb-true _ _ q.0)) (places-fit vars loops h names dims q.1))
+    and_from _ _ (lt-ltb _ _ (subst (λ k. place_of loops n < k) (sym (length-map loops (size_of vars))) r.0)) (and_from _ _ (eq-eqb _ _ (r.1 ∙ eqb-true _ _ q.0)) (places-fit vars loops h names dims q.1))
 
 pub sized-named : (vars : List Variable) (loops : List (List ℕ)) → ((n : List ℕ) → is_known n vars ≡ true → is_named n loops ≡ true) → (names : List (List ℕ)) (dims : List ℕ) → sized vars names dims ≡ true → list_all (λ n. is_named n loops) names ≡ true
 sized-named vars loops h [] [] e = refl
@@ -226,26 +225,21 @@ own-step : (t : Bool) (x n : List ℕ) (xs : List (List ℕ)) (k j : ℕ) → by
 own-step true x n xs k j e alone h same = absurd (both_ways (is_named x xs) alone (subst (λ m. is_named m xs ≡ true) (same-name n x e) h))
 own-step false x n xs k j e alone h same = omega (arith, same)
 
-abbrev pub loop_at : List (List ℕ) → ℕ → List ℕ
-loop_at [] k = []
-loop_at (x ∷ xs) zero = x
-loop_at (x ∷ xs) (suc k) = loop_at xs k
+pub name-named : (loops : List (List ℕ)) (k : ℕ) → k < length loops → is_named (name_at loops k) loops ≡ true
+name-named [] k h = absurd (omega (arith, h))
+name-named (x ∷ xs) zero h = or_left _ _ (name-same x x refl)
+name-named (x ∷ xs) (suc k) h = or_right (bytes_eq (name_at xs k) x) _ (name-named xs k (omega (arith, h)))
 
-pub loop-named : (loops : List (List ℕ)) (k : ℕ) → k < length loops → is_named (loop_at loops k) loops ≡ true
-loop-named [] k h = absurd (omega (arith, h))
-loop-named (x ∷ xs) zero h = or_left _ _ (name-same x x refl)
-loop-named (x ∷ xs) (suc k) h = or_right (bytes_eq (loop_at xs k) x) _ (loop-named xs k (omega (arith, h)))
-
-pub own-place : (loops : List (List ℕ)) (k : ℕ) → distinct_names loops ≡ true → k < length loops → loop_place loops (loop_at loops k) ≡ k
+pub own-place : (loops : List (List ℕ)) (k : ℕ) → distinct_names loops ≡ true → k < length loops → place_of loops (name_at loops k) ≡ k
 own-place [] k d h = absurd (omega (arith, h))
 own-place (x ∷ xs) zero d h = cond-false (not (bytes_eq x x)) _ _ (not_from_true _ (name-same x x refl))
 own-place (x ∷ xs) (suc k) d h =
     let p = and_parts _ _ d in
     let less : k < length xs = omega (arith, h) in
-    own-step (bytes_eq (loop_at xs k) x) x (loop_at xs k) xs k (loop_place xs (loop_at xs k)) refl (not-true _ p.0) (loop-named xs k less) (own-place xs k p.1 less)
+    own-step (bytes_eq (name_at xs k) x) x (name_at xs k) xs k (place_of xs (name_at xs k)) refl (not-true _ p.0) (name-named xs k less) (own-place xs k p.1 less)
 
 -- a test on all loops holds at each
-pub all-at : (p : List ℕ → Bool) (loops : List (List ℕ)) (k : ℕ) → list_all p loops ≡ true → k < length loops → p (loop_at loops k) ≡ true
+pub all-at : (p : List ℕ → Bool) (loops : List (List ℕ)) (k : ℕ) → list_all p loops ≡ true → k < length loops → p (name_at loops k) ≡ true
 all-at p [] k e h = absurd (omega (arith, h))
 all-at p (x ∷ xs) zero e h = (and_parts _ _ e).0
 all-at p (x ∷ xs) (suc k) e h = all-at p xs k (and_parts _ _ e).1 (omega (arith, h))

@@ -1,6 +1,6 @@
 -- The accesses of an accepted program are bound.
 use Rattle.std.proofs.Common.{◌≡◌, ℕ, suc, ◌+◌, ◌-◌, ◌^◌, ◌<◌, ◌≤◌, min, List, [], ◌∷◌, length, slice_index, Bool, true, false, not, ◌||◌, ◌==◌, cond, Option, Some, None, Ok, refl, sym, ap, subst, ◌∙◌, arith, nat_lt}
-use Rattle.std.specs.List.{list_all, list_any}
+use Rattle.std.specs.List.{list_all}
 use Rattle.std.specs.Str.{bytes_eq}
 use Rattle.std.proofs.Math.Numerals.{one-add}
 use Rattle.std.proofs.lemmas.Bool.{and_parts, or_parts, or_left, or_right, not-true, eqb-true, eq-eqb, ltb-true, both_ways, false_from_ne_true, cond-true, cond-false}
@@ -9,21 +9,19 @@ use Rattle.std.proofs.lemmas.List.Sums.{prefix_len-le-length}
 use mathlib.Core.List.{map}
 use Rattle.sam_base.specs.declared.faults.ProgramKind.TheVariants.{RepeatedVariable, DimMismatch}
 use Rattle.sam_model.specs.declared.tensors.Tensor.{Tensor}
-use Rattle.sam_model.specs.declared.program.Term.{Term}
 use Rattle.sam_model.specs.Lists.{is_in}
-use Rattle.sam_model.specs.Accepted.{is_named, is_taken, distinct, variables_fit, access_fits, tensor_passes, factor_fits, factor_reduces, is_access, term_has, term_fits}
+use Rattle.sam_model.specs.Accepted.{is_named, is_taken, distinct, variables_fit, access_fits, tensor_passes, factor_fits}
 use Rattle.notation.specs.declared.statement.AccessText.{AccessText}
-use Rattle.notation.specs.declared.statement.FactorText.{FactorText}
-use Rattle.notation.specs.declared.statement.FactorText.TheVariants.{Access, Literal}
-use Rattle.notation.specs.declared.statement.TermText.{TermText}
 use Rattle.program_file.specs.declared.accesses.Variable.{Variable}
 use Rattle.program_file.specs.declared.files.File.{File}
 use Rattle.program_file.specs.Refusals.{and_then}
-use Rattle.program_file.specs.Accesses.{is_variable, is_known, repeated_variable, differs, mismatched, with_variables, named_kind, access_fault, unless, bind_access, bind_left, bind_named, bind_right, bind_factors, bind_terms, tensor_named}
-use Rattle.program_file.specs.Checks.{loop_place, places}
-use Rattle.program_file.specs.Programs.{size_of, tensor_place, number_of, numbered_factor, numbered_term, bound_of}
-use Rattle.program_file.specs.Written.{access_variables, factor_variables, term_variables, variables_of}
+use Rattle.program_file.specs.Accesses.{is_variable, is_known, repeated_variable, differs, mismatched, with_variables, named_kind, access_fault, unless, bind_access, bind_left, bind_named, bind_right, bind_accesses, tensor_named}
+use Rattle.program_file.specs.Numbers.{place_of, places, size_of, tensor_place, number_of}
+use Rattle.program_file.specs.Statements.{right_accesses}
+use Rattle.program_file.specs.Programs.{bound_of}
+use Rattle.program_file.specs.Written.{access_variables, bound_variables, variables_of}
 use Rattle.program_file.proofs.BoundLemmas.{same-name, joined-keeps, place-item, named-in}
+use Rattle.program_file.proofs.StatementLemmas.{numbered_access}
 use Rattle.program_file.proofs.FitLemmas.{Extends, extends-twice}
 
 named-step : (t : Bool) (n x : List ℕ) (xs : List (List ℕ)) (k : ℕ) → cond (not t) (1 + k) 0 < suc (length xs) → (k < length xs → is_named n xs ≡ true) → (t || is_named n xs) ≡ true
@@ -31,9 +29,9 @@ named-step true n x xs k h r = refl
 named-step false n x xs k h r = r (omega (arith, h))
 
 -- a place below the number of loops is that of a loop
-pub place-named : (n : List ℕ) (loops : List (List ℕ)) → loop_place loops n < length loops → is_named n loops ≡ true
+pub place-named : (n : List ℕ) (loops : List (List ℕ)) → place_of loops n < length loops → is_named n loops ≡ true
 place-named n [] h = absurd (omega (arith, h))
-place-named n (x ∷ xs) h = named-step (bytes_eq n x) n x xs (loop_place xs n) h (place-named n xs)
+place-named n (x ∷ xs) h = named-step (bytes_eq n x) n x xs (place_of xs n) h (place-named n xs)
 
 unknown-same : (n : List ℕ) (d : ℕ) (vars : List Variable) → is_known n vars ≡ false → differs n d vars ≡ false
 unknown-same n d [] h = refl
@@ -59,7 +57,7 @@ no-repeat : (loops names : List (List ℕ)) → distinct (places loops names) �
 no-repeat loops [] e = refl
 no-repeat loops (n ∷ names) e =
     let p = and_parts _ _ e in
-    let alone : is_named n names ≡ false = false_from_ne_true (is_named n names) (λ h. both_ways (is_in (loop_place loops n) (places loops names)) (not-true _ p.0) (named-in loops n names h)) in
+    let alone : is_named n names ≡ false = false_from_ne_true (is_named n names) (λ h. both_ways (is_in (place_of loops n) (places loops names)) (not-true _ p.0) (named-in loops n names h)) in
     cond-false (is_named n names) _ _ alone ∙ no-repeat loops names p.1
 
 -- the sizes of all variables, by the loops
@@ -67,9 +65,9 @@ module _ (all : List Variable) (loops : List (List ℕ)) where
   abbrev pub sizes : List ℕ
   sizes = map (size_of all) loops
 
-  fit-size : (n : List ℕ) (d : ℕ) → nat_lt (loop_place loops n) (length sizes) ≡ true → (slice_index sizes (loop_place loops n) == d) ≡ true → (is_named n loops ≡ true) × (size_of all n ≡ d)
+  fit-size : (n : List ℕ) (d : ℕ) → nat_lt (place_of loops n) (length sizes) ≡ true → (slice_index sizes (place_of loops n) == d) ≡ true → (is_named n loops ≡ true) × (size_of all n ≡ d)
   fit-size n d low same =
-      let less : loop_place loops n < length loops = subst (λ k. loop_place loops n < k) (length-map loops (size_of all)) (ltb-true _ _ low) in
+      let less : place_of loops n < length loops = subst (λ k. place_of loops n < k) (length-map loops (size_of all)) (ltb-true _ _ low) in
       let named = place-named n loops less in
       (named, sym (place-item (size_of all) n loops named).1 ∙ eqb-true _ _ same)
 
@@ -110,22 +108,6 @@ module _ (all : List Variable) (loops : List (List ℕ)) where
   pub access-bound : (line : ℕ) (vars : List Variable) → Extends vars all → (a : AccessText) (t : Tensor) → access_fits sizes (places loops a.vars) t ≡ true → bind_access line vars a t ≡ Ok (with_variables vars a.vars t.dims)
   access-bound line vars ext a t e = ap (λ o. unless line o (with_variables vars a.vars t.dims)) (no-fault vars ext a t e)
 
--- what holds of the factors of a term that fits
-pub record TermFits (tensors : List Tensor) (vars left : List ℕ) (t : Term) : Type 0 where
-  pub factors : list_all (factor_fits tensors vars) t.factors ≡ true
-  pub access : list_any is_access t.factors ≡ true
-  pub whole : list_all (term_has t) left ≡ true
-  pub shallow : list_all (factor_reduces left) t.factors ≡ true
-
-pub term-parts : (tensors : List Tensor) (vars left : List ℕ) (t : Term) → term_fits tensors vars left t ≡ true → TermFits tensors vars left t
-term-parts tensors vars left t e =
-    let p = and_parts _ _ e in
-    let q = and_parts _ _ p.1 in
-    let f = and_parts _ _ q.1 in
-    let a = and_parts _ _ f.1 in
-    let l = and_parts _ _ a.1 in
-    record { factors = f.0; access = a.0; whole = l.0; shallow = l.1 }
-
 -- the tensor of a number that passes a test
 pub record NamedPasses (test : Tensor → Bool) (name : List ℕ) (ts : List Tensor) : Type 0 where
   pub tensor : Tensor
@@ -158,21 +140,14 @@ access-keeps : (vars : List Variable) (a : AccessText) (o : Option Tensor) → E
 access-keeps vars a None n h = (h, refl)
 access-keeps vars a (Some t) n h = joined-keeps a.vars t.dims n vars h
 
-factors-keep : (tensors : List Tensor) (xs : List FactorText) (vars : List Variable) → Extends vars (factor_variables tensors vars xs)
-factors-keep tensors [] vars n h = (h, refl)
-factors-keep tensors (Literal k ∷ xs) vars n h = factors-keep tensors xs vars n h
-factors-keep tensors (Access a ∷ xs) vars n h =
-    extends-twice vars (access_variables vars a (tensor_named a.name tensors)) (factor_variables tensors (access_variables vars a (tensor_named a.name tensors)) xs)
-    (access-keeps vars a (tensor_named a.name tensors)) (factors-keep tensors xs (access_variables vars a (tensor_named a.name tensors))) n h
-
-terms-keep : (tensors : List Tensor) (ts : List TermText) (vars : List Variable) → Extends vars (term_variables tensors vars ts)
-terms-keep tensors [] vars n h = (h, refl)
-terms-keep tensors (t ∷ ts) vars n h =
-    extends-twice vars (factor_variables tensors vars t.factors) (term_variables tensors (factor_variables tensors vars t.factors) ts)
-    (factors-keep tensors t.factors vars) (terms-keep tensors ts (factor_variables tensors vars t.factors)) n h
+accesses-keep : (tensors : List Tensor) (accesses : List AccessText) (vars : List Variable) → Extends vars (bound_variables tensors vars accesses)
+accesses-keep tensors [] vars n h = (h, refl)
+accesses-keep tensors (a ∷ accesses) vars n h =
+    let more = access_variables vars a (tensor_named a.name tensors) in
+    extends-twice vars more (bound_variables tensors more accesses) (access-keeps vars a (tensor_named a.name tensors)) (accesses-keep tensors accesses more) n h
 
 module _ (line : ℕ) (tensors : List Tensor) (result : Tensor) (few : length tensors < 2 ^ 32) (free : is_taken result.name tensors ≡ false) (all : List Variable) (loops : List (List ℕ)) where
-  right-bound : (vars : List Variable) → Extends vars all → (a : AccessText) → factor_fits tensors (sizes all loops) (numbered_factor tensors loops (Access a)) ≡ true
+  right-bound : (vars : List Variable) → Extends vars all → (a : AccessText) → factor_fits tensors (sizes all loops) (numbered_access tensors loops a) ≡ true
       → bind_right line tensors result vars a ≡ Ok (access_variables vars a (tensor_named a.name tensors))
   right-bound vars ext a e =
       let n = number-passes (access_fits (sizes all loops) (places loops a.vars)) a.name tensors few e in
@@ -183,40 +158,29 @@ module _ (line : ℕ) (tensors : List Tensor) (result : Tensor) (few : length te
       ∙ access-bound all loops line vars ext a n.tensor n.passes
       ∙ ap (λ o. Ok (access_variables vars a o)) (sym n.named)
 
-  factors-bound : (xs : List FactorText) (vars : List Variable) → Extends (factor_variables tensors vars xs) all → list_all (factor_fits tensors (sizes all loops)) (map (numbered_factor tensors loops) xs) ≡ true
-      → bind_factors line tensors result vars xs ≡ Ok (factor_variables tensors vars xs)
-  factors-bound [] vars ext e = refl
-  factors-bound (Literal k ∷ xs) vars ext e = factors-bound xs vars ext e
-  factors-bound (Access a ∷ xs) vars ext e =
+  accesses-bound : (accesses : List AccessText) (vars : List Variable) → Extends (bound_variables tensors vars accesses) all → list_all (λ a. factor_fits tensors (sizes all loops) (numbered_access tensors loops a)) accesses ≡ true
+      → bind_accesses line tensors result vars accesses ≡ Ok (bound_variables tensors vars accesses)
+  accesses-bound [] vars ext e = refl
+  accesses-bound (a ∷ accesses) vars ext e =
       let p = and_parts _ _ e in
       let more = access_variables vars a (tensor_named a.name tensors) in
-      let here = extends-twice vars (factor_variables tensors more xs) all (factors-keep tensors (Access a ∷ xs) vars) ext in
-      ap (λ r. and_then r (λ vs. bind_factors line tensors result vs xs)) (right-bound vars here a p.0)
-      ∙ factors-bound xs more ext p.1
-
-  pub terms-bound : (left : List ℕ) (ts : List TermText) (vars : List Variable) → Extends (term_variables tensors vars ts) all → list_all (term_fits tensors (sizes all loops) left) (map (numbered_term tensors loops) ts) ≡ true
-      → bind_terms line tensors result vars ts ≡ Ok (term_variables tensors vars ts)
-  terms-bound left [] vars ext e = refl
-  terms-bound left (t ∷ ts) vars ext e =
-      let p = and_parts _ _ e in
-      let f = term-parts tensors (sizes all loops) left (numbered_term tensors loops t) p.0 in
-      let more = factor_variables tensors vars t.factors in
-      let here = extends-twice more (term_variables tensors more ts) all (terms-keep tensors ts more) ext in
-      ap (λ r. and_then r (λ vs. bind_terms line tensors result vs ts)) (factors-bound t.factors vars here f.factors)
-      ∙ terms-bound left ts more ext p.1
+      let here = extends-twice vars (bound_variables tensors more accesses) all (accesses-keep tensors (a ∷ accesses) vars) ext in
+      ap (λ r. and_then r (λ vs. bind_accesses line tensors result vs accesses)) (right-bound vars here a p.0)
+      ∙ accesses-bound accesses more ext p.1
 
 none-known : (all : List Variable) → Extends [] all
 none-known all n h = absurd cc
 
--- the accesses of a file whose numbered statement fits are bound, to the variables of the file
+-- the accesses of a file are bound to its variables, where they fit by numbers
 pub file-bound : (f : File) → length f.tensors < 2 ^ 32 → is_taken f.result.name f.tensors ≡ false → bytes_eq f.statement.left.name f.result.name ≡ true
     → access_fits (sizes (variables_of f) f.loops) (places f.loops f.statement.left.vars) f.result ≡ true
-    → list_all (term_fits f.tensors (sizes (variables_of f) f.loops) (places f.loops f.statement.left.vars)) (map (numbered_term f.tensors f.loops) f.statement.terms) ≡ true
+    → list_all (λ a. factor_fits f.tensors (sizes (variables_of f) f.loops) (numbered_access f.tensors f.loops a)) (right_accesses f.statement) ≡ true
     → bound_of f ≡ Ok (variables_of f)
-file-bound f few free left fits terms =
+file-bound f few free left fits accesses =
     let vars = with_variables [] f.statement.left.vars f.result.dims in
+    let right = right_accesses f.statement in
     let bound : bind_left f.statement_line f.result f.statement.left ≡ Ok vars =
     cond-true (bytes_eq f.statement.left.name f.result.name) _ _ left
     ∙ access-bound (variables_of f) f.loops f.statement_line [] (none-known (variables_of f)) f.statement.left f.result fits in
-    ap (λ r. and_then r (λ vs. bind_terms f.statement_line f.tensors f.result vs f.statement.terms)) bound
-    ∙ terms-bound f.statement_line f.tensors f.result few free (variables_of f) f.loops (places f.loops f.statement.left.vars) f.statement.terms vars (λ n h. (h, refl)) terms
+    ap (λ r. and_then r (λ vs. bind_accesses f.statement_line f.tensors f.result vs right)) bound
+    ∙ accesses-bound f.statement_line f.tensors f.result few free (variables_of f) f.loops right vars (λ n h. (h, refl)) accesses

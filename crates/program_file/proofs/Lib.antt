@@ -1,7 +1,9 @@
+mod Worked
 pub mod PartLemmas
 pub mod DeclaredLemmas
 pub mod NameLemmas
 pub mod BoundLemmas
+pub mod StatementLemmas
 pub mod FitLemmas
 pub mod FileLemmas
 pub mod NameSets

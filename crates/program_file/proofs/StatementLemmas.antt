@@ -1,5 +1,5 @@
 -- The right side of a statement: its terms have the accesses of its text, and its top-level terms fit where these are in range.
-use Rattle.std.proofs.Common.{◌≡◌, ℕ, ◌<◌, List, [], ◌∷◌, ◌++◌, length, Bool, true, ◌&&◌, ◌||◌, refl, sym, ap, ap₂, subst, ◌∙◌, arith, append_assoc, nat_lt}
+use Rattle.std.proofs.Common.{◌≡◌, ℕ, ◌<◌, List, [], ◌∷◌, ◌++◌, length, Bool, true, ◌&&◌, ◌||◌, refl, sym, ap, ap₂, ◌∙◌, arith, append_assoc, nat_lt}
 use Rattle.std.specs.List.{flat_map, list_all, list_any}
 use Rattle.std.proofs.lemmas.Bool.{and_parts, and_from}
 use Rattle.std.proofs.lemmas.List.{append-nil, length-map}
@@ -10,10 +10,9 @@ use Rattle.sam_model.specs.declared.program.Factor.{Factor}
 use Rattle.sam_model.specs.declared.program.Factor.TheVariants as factor
 use Rattle.sam_model.specs.Trees.{ExprTree, TopTree}
 use Rattle.sam_model.specs.Trees as tree
-use Rattle.sam_model.specs.Lists.{same_list}
 use Rattle.sam_model.specs.Denote.{vars_of, has_var}
 use Rattle.sam_model.specs.Accepted.{distinct, terms_have}
-use Rattle.sam_model.specs.Scopes.{bound_vars, used_vars, free_vars, are_apart, are_in_range, implied_of, top_fits}
+use Rattle.sam_model.specs.Scopes.{bound_vars, free_vars, are_apart, are_in_range, implied_of, top_fits}
 use Rattle.sam_model.proofs.Lists.{list_any-map}
 use Rattle.sam_model.proofs.Orders.{same_list-self}
 use Rattle.expand.proofs.Accesses.{accesses_of, pass-tops, tops-have, used-pass, some-tops}

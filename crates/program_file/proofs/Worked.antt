@@ -1,5 +1,5 @@
 -- The checks and the program of a file, tried on files by hand.
-use Rattle.std.proofs.Common.{◌≡◌, ℕ, List, [], ◌∷◌, Bool, true, false, Result, Ok, refl, codes}
+use Rattle.std.proofs.Common.{◌≡◌, ℕ, List, [], ◌∷◌, true, false, Ok, refl, codes}
 use mathlib.Core.List.{map}
 use Rattle.sam_base.specs.declared.faults.ProgramKind.TheVariants.{NoAccess, MissingResultVariable, TooManyVariables, LoopsMismatch, Discordant, ReducerTooDeep}
 use Rattle.sam_model.specs.declared.tensors.Format.TheVariants.{Compressed}
@@ -13,11 +13,11 @@ use Rattle.notation.specs.declared.statement.FactorText.TheVariants as text
 use Rattle.notation.specs.declared.statement.TermText.{TermText}
 use Rattle.program_file.specs.declared.files.File.{File}
 use Rattle.program_file.specs.declared.accesses.Variable.{Variable}
-use Rattle.program_file.specs.Refusals.{ProgramRefusal, program_refused}
+use Rattle.program_file.specs.Refusals.{program_refused}
 use Rattle.program_file.specs.Numbers.{numbering}
 use Rattle.program_file.specs.Statements.{body_of, tops_of}
+use Rattle.program_file.specs.Checks.{has_named}
 use Rattle.program_file.specs.Programs.{checked}
-use Rattle.program_file.specs.Written.{variables_of}
 
 abbrev i : List ℕ
 i = codes "i"
@@ -102,18 +102,22 @@ difference_program = record {
 }
 
 difference-read : checked (difference (i ∷ j ∷ [])) ≡ Ok difference_program
+unfolding has_named
 difference-read = refl
 
 -- B is against these loops, and these loops lack j
 against_loops : checked (difference (j ∷ i ∷ [])) ≡ program_refused (Discordant (codes "B")) 6
+unfolding has_named
 against_loops = refl
 
 wrong_loops : checked (difference (i ∷ i ∷ [])) ≡ program_refused LoopsMismatch 6
+unfolding has_named
 wrong_loops = refl
 
 -- what a term lacks is told before the loops, by its name
 lacking : checked (file (2 ∷ 3 ∷ []) (0 ∷ 1 ∷ []) (i ∷ j ∷ []) (plus (of (codes "B") (i ∷ j ∷ []) ∷ []) ∷ plus (of (codes "d") (i ∷ []) ∷ []) ∷ []) [])
     ≡ program_refused (MissingResultVariable j) 5
+unfolding has_named
 lacking = refl
 
 no_access : checked (file [] [] [] (plus (text.Literal 2 ∷ []) ∷ []) []) ≡ program_refused NoAccess 5
@@ -124,15 +128,18 @@ nine_variables : checked
     (file (2 ∷ []) (0 ∷ []) (i ∷ [])
     (plus (of (codes "D") (j ∷ k ∷ l ∷ codes "m" ∷ []) ∷ of (codes "D") (codes "n" ∷ codes "o" ∷ codes "p" ∷ codes "q" ∷ []) ∷ []) ∷ []) [])
     ≡ program_refused (MissingResultVariable i) 5
+unfolding has_named
 nine_variables = refl
 
 too_many : checked
     (file (2 ∷ []) (0 ∷ []) (i ∷ [])
     (plus (of (codes "d") (i ∷ []) ∷ of (codes "D") (j ∷ k ∷ l ∷ codes "m" ∷ []) ∷ of (codes "D") (codes "n" ∷ codes "o" ∷ codes "p" ∷ codes "q" ∷ []) ∷ []) ∷ []) [])
     ≡ program_refused TooManyVariables 5
+unfolding has_named
 too_many = refl
 
 -- three variables of the left come after k
 too_deep : checked (file (2 ∷ 2 ∷ 2 ∷ []) (0 ∷ 1 ∷ 2 ∷ []) (i ∷ j ∷ l ∷ []) (plus (of (codes "D") (k ∷ i ∷ j ∷ l ∷ []) ∷ []) ∷ []) (k ∷ i ∷ j ∷ l ∷ []))
     ≡ program_refused (ReducerTooDeep k) 6
+unfolding has_named
 too_deep = refl

@@ -7,9 +7,6 @@ use Rattle.sam_base.specs.declared.faults.ProgramKind.TheVariants.{UnknownName, 
 use Rattle.sam_model.specs.declared.tensors.Tensor.{Tensor}
 use Rattle.sam_model.specs.Accepted.{is_named}
 use Rattle.notation.specs.declared.statement.AccessText.{AccessText}
-use Rattle.notation.specs.declared.statement.FactorText.{FactorText}
-use Rattle.notation.specs.declared.statement.FactorText.TheVariants.{Access, Literal}
-use Rattle.notation.specs.declared.statement.TermText.{TermText}
 use Rattle.program_file.specs.declared.accesses.Variable.{Variable}
 use Rattle.program_file.specs.Refusals.{ProgramRefusal, program_refused, and_then}
 
@@ -80,14 +77,7 @@ bind_right line tensors result vars a =
     if bytes_eq a.name result.name then program_refused (ResultOnRight a.name) line
     else bind_named line vars a (tensor_named a.name tensors)
 
-abbrev pub bind_factor : ℕ → List Tensor → Tensor → List Variable → FactorText → Result (List Variable) ProgramRefusal
-bind_factor line tensors result vars (Access a) = bind_right line tensors result vars a
-bind_factor line tensors result vars (Literal n) = Ok vars
-
-abbrev pub bind_factors : ℕ → List Tensor → Tensor → List Variable → List FactorText → Result (List Variable) ProgramRefusal
-bind_factors line tensors result vars [] = Ok vars
-bind_factors line tensors result vars (x ∷ xs) = and_then (bind_factor line tensors result vars x) (λ more. bind_factors line tensors result more xs)
-
-abbrev pub bind_terms : ℕ → List Tensor → Tensor → List Variable → List TermText → Result (List Variable) ProgramRefusal
-bind_terms line tensors result vars [] = Ok vars
-bind_terms line tensors result vars (x ∷ xs) = and_then (bind_factors line tensors result vars x.factors) (λ more. bind_terms line tensors result more xs)
+abbrev pub bind_accesses : ℕ → List Tensor → Tensor → List Variable → List AccessText → Result (List Variable) ProgramRefusal
+bind_accesses line tensors result vars [] = Ok vars
+bind_accesses line tensors result vars (a ∷ accesses) =
+    and_then (bind_right line tensors result vars a) (λ more. bind_accesses line tensors result more accesses)

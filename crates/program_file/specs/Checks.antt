@@ -1,63 +1,67 @@
--- The checks that follow when each access is right, and the program of a file.
-use Rattle.std.specs.Prelude.{ℕ, Bool, true, false, not, ◌&&◌, ◌==◌, nat_lt, List, [], ◌∷◌, length, if◌then◌else◌, count_by, Option, Some, None}
-use Rattle.std.specs.List.{list_all, list_any, position_or_len}
-use Rattle.std.specs.Str.{bytes_eq}
-use mathlib.Core.List.{map}
+-- The checks that follow when each access is right: of the expanded terms, where variables have these names, and of the order
+-- of the loops.
+use Rattle.std.specs.Prelude.{ℕ, Bool, List, [], ◌∷◌, length, nat_lt, if◌then◌else◌, Option, Some, None}
+use Rattle.std.specs.List.{list_any}
+use Rattle.sam_base.specs.declared.TheConstants.{TERMS_MOST}
 use Rattle.sam_base.specs.declared.faults.ProgramKind.{ProgramKind}
-use Rattle.sam_base.specs.declared.faults.ProgramKind.TheVariants.{NoAccess, MissingResultVariable, Discordant, ReducerTooDeep}
+use Rattle.sam_base.specs.declared.faults.ProgramKind.TheVariants.{ExpandedTerms, ExpandedFactors, NoAccess, MissingResultVariable, Discordant, ReducerTooDeep}
 use Rattle.sam_model.specs.declared.tensors.Tensor.{Tensor}
 use Rattle.sam_model.specs.declared.program.Factor.{Factor}
-use Rattle.sam_model.specs.declared.program.Factor.TheVariants as model
+use Rattle.sam_model.specs.declared.program.Term.{Term}
 use Rattle.sam_model.specs.Lists.{items_at}
-use Rattle.sam_model.specs.Accepted.{is_named, distinct_names, ascending}
+use Rattle.sam_model.specs.Denote.{vars_of}
+use Rattle.sam_model.specs.Accepted.{is_access, term_has, reduces, ascending}
+use Rattle.expand.specs.Counting.{have_long}
 use Rattle.notation.specs.declared.statement.AccessText.{AccessText}
-use Rattle.notation.specs.declared.statement.FactorText.{FactorText}
-use Rattle.notation.specs.declared.statement.FactorText.TheVariants.{Access, Literal}
-use Rattle.notation.specs.declared.statement.TermText.{TermText}
-use Rattle.program_file.specs.declared.accesses.Variable.{Variable}
-use Rattle.program_file.specs.Accesses.{is_known, tensor_named, named_kind}
-
-abbrev pub is_access_text : FactorText → Bool
-is_access_text (Access a) = true
-is_access_text (Literal n) = false
-
--- a variable stands in a factor
-abbrev pub factor_text_has : List ℕ → FactorText → Bool
-factor_text_has v (Access a) = is_named v a.vars
-factor_text_has v (Literal n) = false
-
-unfoldable pub term_text_has : TermText → List ℕ → Bool
-term_text_has t v = list_any (factor_text_has v) t.factors
-
--- the first variable of the left that a term lacks
-abbrev pub missing : TermText → List (List ℕ) → Option (List ℕ)
-missing t [] = None
-missing t (v ∷ vs) = if term_text_has t v then missing t vs else Some v
-
-abbrev pub term_fault : List (List ℕ) → TermText → Option ProgramKind
-term_fault left t = if list_any is_access_text t.factors then named_kind MissingResultVariable (missing t left) None else Some NoAccess
+use Rattle.program_file.specs.Accesses.{tensor_named, named_kind}
+use Rattle.program_file.specs.Numbers.{place_of, places, name_at}
 
 abbrev pub first_of : Option ProgramKind → Option ProgramKind → Option ProgramKind
 first_of None next = next
 first_of (Some kind) next = Some kind
 
--- the first fault of the first term that has one
-abbrev pub terms_fault : List (List ℕ) → List TermText → Option ProgramKind
-terms_fault left [] = None
-terms_fault left (t ∷ ts) = first_of (term_fault left t) (terms_fault left ts)
+-- a statement has too many terms, or a term has too many factors
+abbrev pub expansion_fault : List Term → Option ProgramKind
+expansion_fault ts =
+    if nat_lt TERMS_MOST (length ts) then Some ExpandedTerms
+    else if have_long ts then Some ExpandedFactors
+    else None
 
--- the loops are the variables, each exactly once
-abbrev pub are_loops : List Variable → List (List ℕ) → Bool
-are_loops vars loops =
-    length loops == length vars && (list_all (λ n. is_known n vars) loops
-    && (distinct_names loops && list_all (λ v. is_named v.name loops) vars))
+-- ---- terms
 
--- the place of a variable in the loops
-abbrev pub loop_place : List (List ℕ) → List ℕ → ℕ
-loop_place loops name = position_or_len (bytes_eq name) loops
+-- a term has the variable of a name
+unfoldable pub has_named : List (List ℕ) → Term → List ℕ → Bool
+has_named names t v = term_has t (place_of names v)
 
-abbrev pub places : List (List ℕ) → List (List ℕ) → List ℕ
-places loops names = map (loop_place loops) names
+module _ (names : List (List ℕ)) where
+  -- the first variable of the left that a term lacks
+  abbrev pub missing : Term → List (List ℕ) → Option (List ℕ)
+  missing t [] = None
+  missing t (v ∷ vs) = if has_named names t v then missing t vs else Some v
+
+  abbrev pub term_fault : List (List ℕ) → Term → Option ProgramKind
+  term_fault left t = if list_any is_access t.factors then named_kind MissingResultVariable (missing t left) None else Some NoAccess
+
+  -- the first fault of the first term that has one
+  abbrev pub terms_fault : List (List ℕ) → List Term → Option ProgramKind
+  terms_fault left [] = None
+  terms_fault left (t ∷ ts) = first_of (term_fault left t) (terms_fault left ts)
+
+  -- the first variable that is summed over with more than two variables of the left after it
+  abbrev pub vars_deep : List ℕ → List ℕ → Option ProgramKind
+  vars_deep left [] = None
+  vars_deep left (v ∷ vs) = if reduces left v then vars_deep left vs else Some (ReducerTooDeep (name_at names v))
+
+  abbrev pub factors_deep : List ℕ → List Factor → Option ProgramKind
+  factors_deep left [] = None
+  factors_deep left (f ∷ fs) = first_of (vars_deep left (vars_of f)) (factors_deep left fs)
+
+  -- the first such variable of the first term that has one
+  abbrev pub terms_deep : List ℕ → List Term → Option ProgramKind
+  terms_deep left [] = None
+  terms_deep left (t ∷ ts) = first_of (factors_deep left t.factors) (terms_deep left ts)
+
+-- ---- accesses
 
 -- an access whose variables in storage order don't stand in loop order
 abbrev pub access_discordant : List (List ℕ) → AccessText → Tensor → Option ProgramKind
@@ -67,33 +71,8 @@ abbrev pub named_discordant : List (List ℕ) → AccessText → Option Tensor �
 named_discordant loops a None = None
 named_discordant loops a (Some t) = access_discordant loops a t
 
-abbrev pub factors_discordant : List Tensor → List (List ℕ) → List FactorText → Option ProgramKind
-factors_discordant tensors loops [] = None
-factors_discordant tensors loops (Literal n ∷ xs) = factors_discordant tensors loops xs
-factors_discordant tensors loops (Access a ∷ xs) = first_of (named_discordant loops a (tensor_named a.name tensors)) (factors_discordant tensors loops xs)
-
-abbrev pub terms_discordant : List Tensor → List (List ℕ) → List TermText → Option ProgramKind
-terms_discordant tensors loops [] = None
-terms_discordant tensors loops (t ∷ ts) = first_of (factors_discordant tensors loops t.factors) (terms_discordant tensors loops ts)
-
--- how many variables of the left come and_then a variable in the loops
-abbrev pub count_after : List (List ℕ) → List (List ℕ) → List ℕ → ℕ
-count_after loops left name = count_by (λ w. nat_lt (loop_place loops name) (loop_place loops w)) left
-
--- a variable that is summed over, with more than two variables of the left and_then it
-unfoldable pub is_too_deep : List (List ℕ) → List (List ℕ) → List ℕ → Bool
-is_too_deep loops left name = not (is_named name left) && nat_lt 2 (count_after loops left name)
-
--- the first such variable in the order of the text
-abbrev pub names_deep : List (List ℕ) → List (List ℕ) → List (List ℕ) → Option ProgramKind
-names_deep loops left [] = None
-names_deep loops left (v ∷ vs) = if is_too_deep loops left v then Some (ReducerTooDeep v) else names_deep loops left vs
-
-abbrev pub factors_deep : List (List ℕ) → List (List ℕ) → List FactorText → Option ProgramKind
-factors_deep loops left [] = None
-factors_deep loops left (Literal n ∷ xs) = factors_deep loops left xs
-factors_deep loops left (Access a ∷ xs) = first_of (names_deep loops left a.vars) (factors_deep loops left xs)
-
-abbrev pub terms_deep : List (List ℕ) → List (List ℕ) → List TermText → Option ProgramKind
-terms_deep loops left [] = None
-terms_deep loops left (t ∷ ts) = first_of (factors_deep loops left t.factors) (terms_deep loops left ts)
+-- the first such access
+abbrev pub accesses_discordant : List Tensor → List (List ℕ) → List AccessText → Option ProgramKind
+accesses_discordant tensors loops [] = None
+accesses_discordant tensors loops (a ∷ accesses) =
+    first_of (named_discordant loops a (tensor_named a.name tensors)) (accesses_discordant tensors loops accesses)

@@ -3,6 +3,8 @@ pub mod Keywords
 pub mod Declarations
 pub mod Files
 pub mod Accesses
+pub mod Numbers
+pub mod Statements
 pub mod Checks
 pub mod Programs
 pub mod Names

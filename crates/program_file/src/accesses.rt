@@ -1,12 +1,13 @@
 //! The variables of a statement, bound access by access.
 
 ghost use Rattle.std.specs.Prelude.{◌≡◌, None, Some, [], option_copied, IfOk, OnOk, MatchOption};
+ghost use mathlib.Core.List.{map};
 ghost use Rattle.program_file.specs.Accesses.{tensor_named, is_known, repeated_variable, differs, mismatched, with_variable, with_variables};
-ghost use Rattle.program_file.specs.Accesses.{access_fault, bind_access, bind_left, bind_right, bind_factors, bind_terms};
+ghost use Rattle.program_file.specs.Accesses.{access_fault, bind_access, bind_left, bind_right, bind_accesses};
 ghost use Rattle.program_file.specs.Refusals.{LeavesProgram};
 
 use crate::faults::ProgramFault;
-use notation::{AccessText, FactorText, TermText};
+use notation::AccessText;
 use sam_base::{Items, Name, ProgramKind};
 use sam_model::{Tensor, is_named};
 use std::alloc::{AllocError, Global};
@@ -228,40 +229,21 @@ impl Accesses<'_> {
         }
     }
 
-    fn bind_factors(
+    /// Adds the variables of these accesses of the right side, one after another.
+    pub(crate) fn bind_accesses(
         &self,
         alloc: Global,
         vars: &mut Items<Variable>,
-        factors: &[FactorText],
+        accesses: &[&AccessText],
     ) -> Result<(), ProgramFault>
         ensures { LeavesProgram result (λ _. vars.new)
-            (bind_factors self.now.line self.now.tensors.now self.now.result.now vars.old factors.now) }
+            (bind_accesses self.now.line self.now.tensors.now self.now.result.now vars.old (map (λ a. a.now) accesses.now)) }
     {
-        match factors {
+        match accesses {
             [] => Ok(()),
-            [FactorText::Access(access), rest @ ..] => {
+            [access, rest @ ..] => {
                 self.bind_right(alloc, vars, access)?;
-                self.bind_factors(alloc, vars, rest)
-            }
-            [FactorText::Literal(_), rest @ ..] => self.bind_factors(alloc, vars, rest),
-        }
-    }
-
-    /// Adds the variables of all terms, in the order of the text.
-    pub(crate) fn bind_terms(
-        &self,
-        alloc: Global,
-        vars: &mut Items<Variable>,
-        terms: &[TermText],
-    ) -> Result<(), ProgramFault>
-        ensures { LeavesProgram result (λ _. vars.new)
-            (bind_terms self.now.line self.now.tensors.now self.now.result.now vars.old terms.now) }
-    {
-        match terms {
-            [] => Ok(()),
-            [term, rest @ ..] => {
-                self.bind_factors(alloc, vars, term.factors.as_slice())?;
-                self.bind_terms(alloc, vars, rest)
+                self.bind_accesses(alloc, vars, rest)
             }
         }
     }

@@ -8,7 +8,9 @@ mod faults;
 mod files;
 mod keywords;
 mod names;
+mod numbers;
 mod programs;
+mod statements;
 
 pub use faults::ProgramFault;
 pub use programs::read_program;

@@ -124,11 +124,7 @@ fn size_of(vars: &[Variable], name: &[u8]) -> u64
 }
 
 /// The sizes of the variables with these names.
-pub(crate) fn sizes_of(
-    alloc: Global,
-    vars: &[Variable],
-    names: &[Name],
-) -> Result<Nums, AllocError>
+pub(crate) fn sizes_of(alloc: Global, vars: &[Variable], names: &[Name]) -> Result<Nums, AllocError>
     ensures { IfOk result (λ sizes. sizes ≡ map (size_of vars.now) names.now) }
 {
     let mut sizes = Nums::new(alloc);

@@ -1,155 +1,77 @@
 //! The program of a file, and the reading of a text.
 
 ghost use Rattle.std.specs.Prelude.{◌≡◌, ◌≤◌, length, true, Ok, IfOk};
-ghost use mathlib.Core.List.{map};
 ghost use Rattle.sam_model.specs.declared.program.Program.{Program as SpecProgram};
-ghost use Rattle.sam_model.specs.Accepted.{accepted};
-ghost use Rattle.program_file.specs.Checks.{places};
-ghost use Rattle.program_file.specs.Programs.{tensor_place, number_of, numbered_factor, numbered_term, size_of, program_of};
-ghost use Rattle.program_file.specs.Programs.{bound_of, order_fault, loops_checked, statement_checked, checked, program_reading};
+ghost use Rattle.sam_model.specs.Program.{accepted};
+ghost use Rattle.sam_model.specs.Expressions.{expanded_tops};
+ghost use Rattle.program_file.specs.Statements.{right_accesses};
+ghost use Rattle.program_file.specs.Programs.{file_tops, left_of, sizes_of, program_reading};
+ghost use Rattle.program_file.specs.Checks.{accesses_discordant, terms_deep};
+ghost use Rattle.program_file.specs.Programs.{bound_of, order_fault, loops_checked, terms_checked, expansion_checked, numbered_reading, checked};
 ghost use Rattle.program_file.specs.Written.{Writes};
 ghost use Rattle.program_file.specs.Refusals.{GivesProgram};
 
 use crate::accesses::{Accesses, Variable};
-use crate::checks::{
-    access_discordant, are_loops, places, terms_deep, terms_discordant, terms_fault,
-};
+use crate::checks::{access_discordant, accesses_discordant, terms_deep, terms_fault};
 use crate::faults::ProgramFault;
 use crate::files::{File, read_file};
-use notation::{FactorText, TermText};
+use crate::numbers::{are_loops, numbering, places, sizes_of};
+use crate::statements::{Names, right_accesses};
+use expand::{ExpandFault, expand};
 use sam_base::{FILE_MOST, Items, Name, Nums, ProgramKind, VARIABLES_MOST};
-use sam_model::{Factor, Program, Tensor, Term};
+use sam_model::{Program, Term, Top};
 use std::alloc::{AllocError, Global};
 
-/// The place of a tensor among the declared ones.
-fn place_of_tensor(tensors: &[Tensor], name: &[u8]) -> usize
-    ensures { result ≡ tensor_place tensors.now name.now }
-{
-    tensors
-        .iter()
-        .take_while(|tensor| name != tensor.name.as_bytes())
-        .count()
+/// A statement by numbers: the variables of its left side, the sizes of all variables, and its top-level terms.
+#[derive(Drop)]
+struct NumberedStatement {
+    left: Nums,
+    sizes: Nums,
+    tops: Items<Top>,
 }
 
-/// The number of a tensor, by its name.
-fn number_of(tensors: &[Tensor], name: &[u8]) -> u32
-    ensures { result ≡ number_of tensors.now name.now }
-{
-    let place = place_of_tensor(tensors, name);
-    if place < u32::MAX as usize {
-        place as u32
-    } else {
-        u32::MAX
-    }
-}
-
-fn factor_of(
-    alloc: Global,
-    tensors: &[Tensor],
-    loops: &[Name],
-    factor: &FactorText,
-) -> Result<Factor, AllocError>
-    ensures { IfOk result (λ found. found ≡ numbered_factor tensors.now loops.now factor.now) }
-{
-    match factor {
-        FactorText::Access(access) => Ok(Factor::Access {
-            tensor: number_of(tensors, access.name.as_bytes()),
-            vars: places(alloc, loops, access.vars.as_slice())?,
-        }),
-        FactorText::Literal(number) => Ok(Factor::Literal(*number)),
-    }
-}
-
-fn factors_of(
-    alloc: Global,
-    tensors: &[Tensor],
-    loops: &[Name],
-    factors: &[FactorText],
-) -> Result<Items<Factor>, AllocError>
-    ensures { IfOk result (λ found. found ≡ map (numbered_factor tensors.now loops.now) factors.now) }
-{
-    let mut found = Items::new(alloc);
-    for factor in factors {
-        found.push(factor_of(alloc, tensors, loops, factor)?)?;
-    }
-    Ok(found)
-}
-
-fn terms_of(
-    alloc: Global,
-    tensors: &[Tensor],
-    loops: &[Name],
-    terms: &[TermText],
-) -> Result<Items<Term>, AllocError>
-    ensures { IfOk result (λ found. found ≡ map (numbered_term tensors.now loops.now) terms.now) }
-{
-    let mut found = Items::new(alloc);
-    for term in terms {
-        found.push(Term {
-            minus: term.minus,
-            factors: factors_of(alloc, tensors, loops, term.factors.as_slice())?,
-        })?;
-    }
-    Ok(found)
-}
-
-/// The dimension at the first place of a variable.
-fn size_of(vars: &[Variable], name: &[u8]) -> u64
-    ensures { result ≡ size_of vars.now name.now }
-{
-    match vars {
-        [] => 0,
-        [first, rest @ ..] => {
-            if name == first.name.as_bytes() {
-                first.size
-            } else {
-                size_of(rest, name)
-            }
-        }
-    }
-}
-
-fn sizes_of(alloc: Global, vars: &[Variable], loops: &[Name]) -> Result<Nums, AllocError>
-    ensures { IfOk result (λ sizes. sizes ≡ map (size_of vars.now) loops.now) }
-{
-    let mut sizes = Nums::new(alloc);
-    for name in loops {
-        sizes.push(size_of(vars, name.as_bytes()))?;
-    }
-    Ok(sizes)
-}
-
-/// The left side and the terms of a file's statement, by numbers, and the sizes of the variables.
+/// A file's statement by numbers, where its variables have these names.
 fn numbered(
     alloc: Global,
     file: &File,
+    names: &[Name],
     vars: &[Variable],
-) -> Result<(Nums, Items<Term>, Nums), AllocError>
-    ensures left { IfOk result (λ found. found.0 ≡ places file.now.loops file.now.statement.left.vars) }
-    ensures terms { IfOk result (λ found. found.1 ≡ map (numbered_term file.now.tensors file.now.loops) file.now.statement.terms) }
-    ensures sizes { IfOk result (λ found. found.2 ≡ map (size_of vars.now) file.now.loops) }
+) -> Result<NumberedStatement, AllocError>
+    ensures left { IfOk result (λ n. n.left ≡ left_of names.now file.now) }
+    ensures sizes { IfOk result (λ n. n.sizes ≡ sizes_of names.now file.now vars.now) }
+    ensures tops { IfOk result (λ n. n.tops ≡ file_tops names.now file.now) }
 {
-    let loops = file.loops.as_slice();
-    let tensors = file.tensors.as_slice();
-    let left = places(alloc, loops, file.statement.left.vars.as_slice())?;
-    let terms = terms_of(alloc, tensors, loops, file.statement.terms.as_slice())?;
-    let sizes = sizes_of(alloc, vars, loops)?;
-    Ok((left, terms, sizes))
+    let left = places(alloc, names, file.statement.left.vars.as_slice())?;
+    let sizes = sizes_of(alloc, vars, names)?;
+    let known = Names {
+        tensors: file.tensors.as_slice(),
+        variables: names,
+    };
+    let tops = known.tops(alloc, left.as_slice(), &file.statement)?;
+    Ok(NumberedStatement { left, sizes, tops })
 }
 
-/// The program that a file writes, by numbers.
-fn program_of(alloc: Global, file: File, vars: &[Variable]) -> Result<Program, AllocError>
-    ensures { IfOk result (λ program. program ≡ program_of file vars.now) }
+/// The terms that a statement on this line expands to.
+fn expanded_terms(
+    alloc: Global,
+    line: u32,
+    tops: &Items<Top>,
+    sizes: &Nums,
+) -> Result<Items<Term>, ProgramFault>
+    ensures { GivesProgram result (expansion_checked line (expanded_tops sizes.now tops.now)) }
 {
-    let (left, terms, var_sizes) = numbered(alloc, &file, vars)?;
-    Ok(Program {
-        tensors: file.tensors,
-        result: file.result,
-        left,
-        terms,
-        var_names: file.loops,
-        var_sizes,
-    })
+    match expand(alloc, tops, sizes) {
+        Ok(terms) => Ok(terms),
+        Err(ExpandFault::Terms) => Err(ProgramFault::Refused {
+            kind: ProgramKind::ExpandedTerms,
+            line,
+        }),
+        Err(ExpandFault::Factors) => Err(ProgramFault::Refused {
+            kind: ProgramKind::ExpandedFactors,
+            line,
+        }),
+        Err(ExpandFault::OutOfMemory) => Err(ProgramFault::OutOfMemory),
+    }
 }
 
 /// The variables of a file's statement, if each access is right.
@@ -163,29 +85,64 @@ fn bound_of(alloc: Global, file: &File) -> Result<Items<Variable>, ProgramFault>
     };
     let mut vars = Items::new(alloc);
     accesses.bind_left(alloc, &mut vars, &file.statement.left)?;
-    accesses.bind_terms(alloc, &mut vars, file.statement.terms.as_slice())?;
+    let right = right_accesses(alloc, &file.statement)?;
+    accesses.bind_accesses(alloc, &mut vars, &right)?;
     Ok(vars)
 }
 
-/// The first fault of the loops' order.
-fn order_fault(alloc: Global, file: &File) -> Result<Option<ProgramKind>, AllocError>
-    ensures { IfOk result (λ fault. fault ≡ order_fault file.now) }
+/// The first access of the right side that doesn't stand in loop order.
+fn right_fault(alloc: Global, file: &File) -> Result<Option<ProgramKind>, AllocError>
+    ensures { IfOk result
+        (λ fault. fault ≡ accesses_discordant file.now.tensors file.now.loops (right_accesses file.now.statement)) }
+{
+    let right = right_accesses(alloc, &file.statement)?;
+    accesses_discordant(
+        alloc,
+        file.tensors.as_slice(),
+        file.loops.as_slice(),
+        &right,
+    )
+}
+
+/// The first variable of these terms that is summed over too deep in the loops.
+fn depth_fault(
+    alloc: Global,
+    file: &File,
+    terms: &[Term],
+) -> Result<Option<ProgramKind>, AllocError>
+    ensures { IfOk result (λ fault. fault ≡ terms_deep file.now.loops (left_of file.now.loops file.now) terms.now) }
 {
     let loops = file.loops.as_slice();
+    let left = places(alloc, loops, file.statement.left.vars.as_slice())?;
+    terms_deep(alloc, loops, left.as_slice(), terms)
+}
+
+/// The first fault of the loops' order, where the statement has these terms.
+fn order_fault(
+    alloc: Global,
+    file: &File,
+    terms: &[Term],
+) -> Result<Option<ProgramKind>, AllocError>
+    ensures { IfOk result (λ fault. fault ≡ order_fault file.now terms.now) }
+{
     let left = &file.statement.left;
-    let terms = file.statement.terms.as_slice();
-    if let Some(kind) = access_discordant(alloc, loops, left, &file.result)? {
+    if let Some(kind) = access_discordant(alloc, file.loops.as_slice(), left, &file.result)? {
         return Ok(Some(kind));
     }
-    if let Some(kind) = terms_discordant(alloc, file.tensors.as_slice(), loops, terms)? {
+    if let Some(kind) = right_fault(alloc, file)? {
         return Ok(Some(kind));
     }
-    terms_deep(alloc, loops, left.vars.as_slice(), terms)
+    depth_fault(alloc, file, terms)
 }
 
 /// The checks of the line with the loops.
-fn check_loops(alloc: Global, file: &File, vars: &[Variable]) -> Result<(), ProgramFault>
-    ensures { GivesProgram result (loops_checked file.now vars.now) }
+fn check_loops(
+    alloc: Global,
+    file: &File,
+    vars: &[Variable],
+    terms: &[Term],
+) -> Result<(), ProgramFault>
+    ensures { GivesProgram result (loops_checked file.now vars.now terms.now) }
 {
     let line = file.loops_line;
     if !are_loops(vars, file.loops.as_slice()) {
@@ -194,19 +151,25 @@ fn check_loops(alloc: Global, file: &File, vars: &[Variable]) -> Result<(), Prog
             line,
         });
     }
-    match order_fault(alloc, file)? {
+    match order_fault(alloc, file, terms)? {
         Some(kind) => Err(ProgramFault::Refused { kind, line }),
         None => Ok(()),
     }
 }
 
-/// The checks behind those of the accesses.
-fn check_statement(alloc: Global, file: &File, vars: &[Variable]) -> Result<(), ProgramFault>
-    ensures { GivesProgram result (statement_checked file.now vars.now) }
+/// The checks of the expanded terms, where variables have these names, and those behind them.
+fn check_terms(
+    alloc: Global,
+    names: &[Name],
+    file: &File,
+    vars: &[Variable],
+    terms: &[Term],
+) -> Result<(), ProgramFault>
+    ensures { GivesProgram result (terms_checked names.now file.now vars.now terms.now) }
 {
     let line = file.statement_line;
     let left = file.statement.left.vars.as_slice();
-    if let Some(kind) = terms_fault(alloc, left, file.statement.terms.as_slice())? {
+    if let Some(kind) = terms_fault(alloc, names, left, terms)? {
         return Err(ProgramFault::Refused { kind, line });
     }
     if vars.len() > VARIABLES_MOST {
@@ -215,15 +178,40 @@ fn check_statement(alloc: Global, file: &File, vars: &[Variable]) -> Result<(), 
             line,
         });
     }
-    check_loops(alloc, file, vars)
+    check_loops(alloc, file, vars, terms)
+}
+
+/// The program of a file whose statement is this by numbers, where variables have these names.
+fn numbered_program(
+    alloc: Global,
+    names: &[Name],
+    file: File,
+    vars: &[Variable],
+    statement: NumberedStatement,
+) -> Result<Program, ProgramFault>
+    ensures { GivesProgram result (numbered_reading names.now file vars.now statement.left statement.tops statement.sizes) }
+{
+    let NumberedStatement { left, sizes, tops } = statement;
+    let terms = expanded_terms(alloc, file.statement_line, &tops, &sizes)?;
+    check_terms(alloc, names, &file, vars, terms.as_slice())?;
+    Ok(Program {
+        tensors: file.tensors,
+        result: file.result,
+        left,
+        terms,
+        tops,
+        var_names: file.loops,
+        var_sizes: sizes,
+    })
 }
 
 fn check_file(alloc: Global, file: File) -> Result<Program, ProgramFault>
     ensures { GivesProgram result (checked file) }
 {
     let vars = bound_of(alloc, &file)?;
-    check_statement(alloc, &file, vars.as_slice())?;
-    Ok(program_of(alloc, file, vars.as_slice())?)
+    let names = numbering(alloc, vars.as_slice(), file.loops.as_slice())?;
+    let statement = numbered(alloc, &file, names.as_slice(), vars.as_slice())?;
+    numbered_program(alloc, names.as_slice(), file, vars.as_slice(), statement)
 }
 
 /// The program that a text writes: lines that declare tensors and a result, a line with the statement and one with its

@@ -1,9 +1,9 @@
 //! Programs and refusals, by hand.
 
 use crate::tables::{case_at, unfolded};
+use expand::accepted;
 use program_file::{ProgramFault, read_program};
 use sam_base::{Fault, Name, fault_text};
-use sam_model::accepted;
 use std::alloc::Global;
 use std::test::Fail;
 
@@ -46,6 +46,8 @@ tensor B 4x5 cc 1,2 f|result x 5 c 1|compute x(i) = B(i,j) * 2|loops>3: DimMisma
 tensor B 4x5 cc 1,2 f|result x|compute x = B(i,j) + B(j,i)|loops>3: DimMismatch j
 tensor b 4 c 1 f|result x 4 c 1|compute x(i) = 2 + b(j)|loops>3: NoAccess
 tensor b 4 c 1 f|result x 4 c 1|compute x(i) = b(j) + 2|loops>3: MissingResultVariable i
+tensor B 2x3 cc 1,2 f|tensor d 2 c 1 f|result X 2x3 cc 1,2|compute X(i,j) = B(i,j) + d(i)|loops j>4: MissingResultVariable j
+tensor D 2x2x2x2 cccc 1,2,3,4 f|result x 2 c 1|compute x(i) = D(a,b,c,d) * D(e,f,g,h)|loops>3: MissingResultVariable i
 tensor b 1x1x1x1x1x1x1x1 cccccccc 1,2,3,4,5,6,7,8 f|result x|compute x = b(a,c,d,e,f,g,h,i) + b(a,c,d,e,f,g,h,j)|loops k>3: TooManyVariables
 tensor b 4 c 1 f|result x 4 c 1|compute x(i) = b(i)|loops>4: LoopsMismatch
 tensor b 4 c 1 f|result x 4 c 1|compute x(i) = b(i)|loops i i>4: LoopsMismatch
@@ -73,7 +75,7 @@ fn is_told(alloc: Global, text: &[u8], told: &[u8]) -> Result<bool, Fail> {
             let fault = Fault::Program { kind, line };
             Ok(fault_text(alloc, &fault)?.as_bytes() == expected.as_bytes())
         }
-        Ok(program) => Ok(accepted(&program) && told == b"accepted".as_slice()),
+        Ok(program) => Ok(accepted(alloc, &program)? && told == b"accepted".as_slice()),
         Err(ProgramFault::OutOfMemory) => Ok(false),
     }
 }
@@ -91,7 +93,7 @@ fn texts_are_read(rt: HostRuntime) -> Result<(), Fail> {
     for number in 0..24 {
         assert!(rt; is_right(rt.alloc(), LINES, number)?, "line {number}");
     }
-    for number in 0..23 {
+    for number in 0..25 {
         assert!(rt; is_right(rt.alloc(), CHECKS, number)?, "check {number}");
     }
     Ok(())

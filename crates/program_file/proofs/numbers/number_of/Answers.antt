@@ -1,4 +1,4 @@
-use Rattle.std.proofs.Common.{◌-◌, arith}
+use Rattle.std.proofs.Common.{arith}
 use Rattle.program_file.proofs.numbers.number_of.Goals as goal
 
 pub returns-then-place : goal.returns-then-place
