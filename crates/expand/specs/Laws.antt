@@ -4,10 +4,9 @@ use Rattle.std.specs.List.{list_all}
 use mathlib.Core.List.{map}
 use Rattle.sam_model.specs.declared.tensors.Entries.{Entries}
 use Rattle.sam_model.specs.declared.program.Program.{Program}
-use Rattle.sam_model.specs.Denote.{den, pat}
-use Rattle.sam_model.specs.ResultText.{result_text}
+use Rattle.sam_model.specs.Denote.{den, pat, result_entries}
 use Rattle.sam_model.specs.Program.{accepted}
-use Rattle.sam_model.specs.Statement.{denoted_at, found_at, statement_text}
+use Rattle.sam_model.specs.Statement.{denoted_at, found_at, statement_entries}
 use Rattle.expand.specs.Plain.{is_product, term_of}
 
 -- The terms denote what the statement denotes as it is written, and have in their pattern what is found of it, at all
@@ -17,9 +16,9 @@ TermsDenote =
     (p : Program) (es : List Entries) (x : List ℕ) → accepted p ≡ true → length x ≡ length p.left
     → (den p es x ≡ denoted_at p es x) × (pat p es x ≡ found_at p es x)
 
--- The text of the result by its terms is that of the statement as it is written.
+-- So the entries of the result by its terms are those of the statement as it is written.
 abbrev pub TermsTell : Type 0
-TermsTell = (p : Program) (es : List Entries) → accepted p ≡ true → result_text p es ≡ statement_text p es
+TermsTell = (p : Program) (es : List Entries) → accepted p ≡ true → result_entries p es ≡ statement_entries p es
 
 -- Where the top-level terms are products of accesses and literals, these are the terms.
 abbrev pub ProductsStay : Type 0
