@@ -1,5 +1,5 @@
 -- The terms of an accepted program: how many there are, and that their plans are small and have the result's levels.
-use Rattle.std.specs.Prelude.{◌≡◌, ◌≤◌, ℕ, zero, suc, Bool, true, false, cond, ◌&&◌, ◌==◌, List, [], ◌∷◌, length, nat_le, slice_index, slice_get, Some, refl}
+use Rattle.std.specs.Prelude.{◌≡◌, ◌≤◌, ℕ, zero, suc, Bool, true, false, cond, ◌&&◌, List, [], ◌∷◌, length, nat_le, slice_index, slice_get, Some, refl}
 use Rattle.std.specs.List.{list_all, list_any, filter}
 use mathlib.Core.List.{map}
 use Rattle.std.proofs.Common.{arith, sym, ◌∙◌, ap}
@@ -9,9 +9,9 @@ use Rattle.sam_model.specs.declared.program.Factor.{Factor}
 use Rattle.sam_model.specs.declared.program.Factor.TheVariants.{Access, Literal}
 use Rattle.sam_model.specs.declared.program.Term.{Term}
 use Rattle.sam_model.specs.declared.program.Program.{Program}
-use Rattle.sam_model.specs.Lists.{below, is_in}
+use Rattle.sam_model.specs.Lists.{is_in}
 use Rattle.sam_model.specs.Denote.{loops_of, loop_list}
-use Rattle.sam_model.specs.Accepted.{term_fits, factor_fits, is_access, term_has, factor_reduces, access_fits, distinct_names, stands}
+use Rattle.sam_model.specs.Accepted.{term_fits, factor_fits, is_access, term_has, factor_reduces}
 use Rattle.sam_model.specs.Program.{accepted}
 use Rattle.sam_model.proofs.AcceptedPrograms.{accepted-parts}
 use Rattle.stream_model.proofs.Places.{accepted-terms, term-left}
