@@ -3,6 +3,7 @@ pub mod FieldLemmas
 pub mod EntryLemmas
 pub mod PathLemmas
 pub mod PlaceLemmas
+pub mod PlainLemmas
 pub mod WalkLemmas
 pub mod LineLemmas
 pub mod ListingLemmas

@@ -32,20 +32,29 @@ no-point (b ∷ bs) h =
     let rest = no-point bs parts.1 in
     rw (digit-no-point b parts.0, rest) (omega arith)
 
+-- a value of digits behind at most a sign
+pub signed-decimal : (w ds : List ℕ) (m : Bool) (n : ℕ) → unsigned w ≡ ds → is_minus w ≡ m → is_decimal ds ≡ true → decimal ds ≡ n → word_value w ≡ signed_value m n
+signed-decimal w [] m n bare sign h e = absurd (cc)
+signed-decimal w (b ∷ bs) m n bare sign h e =
+    let end : position_or_len is_point (b ∷ bs) ≡ length (b ∷ bs) = no-point (b ∷ bs) h in
+    let whole : whole_part w ≡ b ∷ bs = ap (λ w. before_first is_point w) bare ∙ ap (λ k. take k (b ∷ bs)) end ∙ take-length (b ∷ bs) in
+    let none : fraction_part w ≡ [] = ap (λ w. after_first is_point w) bare ∙ ap (λ k. drop (k + 1) (b ∷ bs)) end ∙ drop_all (length (b ∷ bs) + 1) (b ∷ bs) (omega arith) in
+    read (whole_part w) (fraction_part w) (is_minus w) whole none sign
+  where
+    decided : (t : Bool) (k : ℕ) → t ≡ true → k ≡ n → cond (t && true) (signed_value m k) (Err BadField) ≡ signed_value m n
+    decided true k t f = ap (signed_value m) f
+    decided false k t f = absurd (cc)
+
+    read : (w f : List ℕ) (s : Bool) → w ≡ b ∷ bs → f ≡ [] → s ≡ m
+        → cond (is_decimal w && list_all is_digit f) (cond (list_all is_zero f) (signed_value s (decimal w)) (Err Fraction)) (Err BadField) ≡ signed_value m n
+    read w f s ew ef es = rw (ew, ef, es) (decided (is_decimal (b ∷ bs)) (decimal (b ∷ bs)) h e)
+
 pub decimal-value : (word : List ℕ) (n : ℕ) → is_decimal word ≡ true → decimal word ≡ n → word_value word ≡ signed_value false n
 decimal-value [] n h e = absurd (cc)
 decimal-value (b ∷ bs) n h e =
     let first = (and_parts _ _ h).0 in
-    let alone : unsigned (b ∷ bs) ≡ b ∷ bs = cond-false (eqb b 45 || eqb b 43) bs (b ∷ bs) (digit-no-sign b first) in
-    let end : position_or_len is_point (b ∷ bs) ≡ length (b ∷ bs) = no-point (b ∷ bs) h in
-    let whole : whole_part (b ∷ bs) ≡ b ∷ bs = ap (λ w. before_first is_point w) alone ∙ ap (λ k. take k (b ∷ bs)) end ∙ take-length (b ∷ bs) in
-    let none : fraction_part (b ∷ bs) ≡ [] = ap (λ w. after_first is_point w) alone ∙ ap (λ k. drop (k + 1) (b ∷ bs)) end ∙ drop_all (length (b ∷ bs) + 1) (b ∷ bs) (omega arith) in
-    read (whole_part (b ∷ bs)) (fraction_part (b ∷ bs)) (is_minus (b ∷ bs)) whole none (digit-no-minus b first)
-  where
-    decided : (t : Bool) (k : ℕ) → t ≡ true → k ≡ n → cond (t && true) (signed_value false k) (Err BadField) ≡ signed_value false n
-    decided true k t f = ap (signed_value false) f
-    decided false k t f = absurd (cc)
+    signed-decimal (b ∷ bs) (b ∷ bs) false n (cond-false (eqb b 45 || eqb b 43) bs (b ∷ bs) (digit-no-sign b first)) (digit-no-minus b first) h e
 
-    read : (w f : List ℕ) (m : Bool) → w ≡ b ∷ bs → f ≡ [] → m ≡ false
-        → cond (is_decimal w && list_all is_digit f) (cond (list_all is_zero f) (signed_value m (decimal w)) (Err Fraction)) (Err BadField) ≡ signed_value false n
-    read w f m ew ef em = rw (ew, ef, em) (decided (is_decimal (b ∷ bs)) (decimal (b ∷ bs)) h e)
+-- and behind a minus
+pub minus-value : (ds : List ℕ) (n : ℕ) → is_decimal ds ≡ true → decimal ds ≡ n → word_value (45 ∷ ds) ≡ signed_value true n
+minus-value ds n h e = signed-decimal (45 ∷ ds) ds true n refl refl h e

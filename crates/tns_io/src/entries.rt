@@ -9,6 +9,7 @@ ghost use Rattle.tns_io.specs.Answers.{Reads, IfTnsRefused, entries_then};
 
 use crate::faults::{LineFault, TnsFault};
 use crate::fields::read_entry;
+use crate::plain::plain_line;
 use sam_base::{ENTRIES_MOST, FILE_MOST, Nums, TnsKind, VARIABLES_MOST};
 use sam_model::Entries;
 use sam_text::{is_skipped, line_at};
@@ -16,14 +17,14 @@ use std::alloc::Global;
 
 /// Reads the line of an entry, and appends the entry.
 fn read_line(
-    coords: &mut Nums,
-    values: &mut Nums,
+    coords: &mut Vec<u64>,
+    values: &mut Vec<u64>,
     sizes: &Nums,
     line: &[u8],
 ) -> Result<(), LineFault>
     requires { length sizes.now ≤ VARIABLES_MOST }
-    ensures { Reads result (λ _. (coords.new, values.new))
-        (entries_then coords.old values.old (next_entry sizes.now (length values.old) line.now)) }
+    ensures { Reads result (λ _. (coords.new.items, values.new.items))
+        (entries_then coords.old.items values.old.items (next_entry sizes.now (length values.old.items) line.now)) }
 {
     let value = read_entry(coords, sizes, line)?;
     if values.len() >= ENTRIES_MOST {
@@ -48,24 +49,29 @@ pub fn read_tns(alloc: Global, text: &[u8], dims: &Nums) -> Result<Entries, TnsF
     ensures in_range { IfOk result (λ e. list_all (λ entry. within dims.now entry.0) (entry_list e.arity e.coords e.values) ≡ true) }
     ensures refused { IfErr result (λ fault. IfTnsRefused fault (λ kind line. tns_entries dims.now text.now ≡ Err (kind, line))) }
 {
-    let mut coords = Nums::new(alloc);
-    let mut values = Nums::new(alloc);
+    let mut coords = Vec::new(alloc);
+    let mut values = Vec::new(alloc);
     let mut from = 0;
     let mut number = 1;
     while from < text.len() {
-        let (end, next) = line_at(text, from);
-        let line = &text[from..end];
-        if !is_skipped(line) {
-            if let Err(fault) = read_line(&mut coords, &mut values, dims, line) {
-                return Err(fault.at(number));
+        match plain_line(&mut coords, &mut values, dims.as_slice(), text, from)? {
+            Some(next) => from = next,
+            None => {
+                let (end, next) = line_at(text, from);
+                let line = &text[from..end];
+                if !is_skipped(line) {
+                    if let Err(fault) = read_line(&mut coords, &mut values, dims, line) {
+                        return Err(fault.at(number));
+                    }
+                }
+                from = next;
             }
         }
-        from = next;
         number += 1;
     }
     Ok(Entries {
         arity: dims.len() as u32,
-        coords,
-        values,
+        coords: Nums::from_vec(coords),
+        values: Nums::from_vec(values),
     })
 }

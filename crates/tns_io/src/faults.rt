@@ -2,10 +2,11 @@
 
 ghost use Rattle.std.specs.Prelude.{◌≡◌};
 ghost use Rattle.tns_io.specs.declared.faults.LineFault.TheVariants as line;
+ghost use Rattle.tns_io.specs.declared.faults.TnsFault.TheVariants as tns;
 ghost use Rattle.tns_io.specs.Answers.{at_line};
 
 use sam_base::TnsKind;
-use std::alloc::AllocError;
+use std::alloc::{AllocError, AllocFailed};
 use thiserror::Error;
 
 /// Why a tensor file is not read.
@@ -16,6 +17,14 @@ pub enum TnsFault {
     Refused { kind: TnsKind, line: u32 },
     #[error("there is no memory for the entries")]
     OutOfMemory,
+}
+
+impl From<AllocError> for TnsFault {
+    ghost from_gives = { λ _ fault. fault ≡ tns.OutOfMemory };
+
+    fn from(_e: AllocError) -> TnsFault {
+        TnsFault::OutOfMemory
+    }
 }
 
 /// Why a line is not read.
@@ -49,6 +58,14 @@ impl From<AllocError> for LineFault {
     ghost from_gives = { λ _ fault. fault ≡ line.OutOfMemory };
 
     fn from(_e: AllocError) -> LineFault {
+        LineFault::OutOfMemory
+    }
+}
+
+impl<T: Drop> From<AllocFailed<T>> for LineFault {
+    ghost from_gives = { λ _ fault. fault ≡ line.OutOfMemory };
+
+    fn from(_e: AllocFailed<T>) -> LineFault {
         LineFault::OutOfMemory
     }
 }

@@ -67,11 +67,11 @@ fn first_value(line: &[u8]) -> Result<(u64, &[u8]), TnsKind>
 /// Reads words, the coordinates of an entry and then its value, and appends the coordinates. The value comes with what stands
 /// behind it.
 fn read_fields<'a>(
-    coords: &mut Nums,
+    coords: &mut Vec<u64>,
     sizes: &[u64],
     line: &'a [u8],
 ) -> Result<(u64, &'a [u8]), LineFault>
-    ensures fields { Reads result (λ found. (coords.new, found.0)) (coordinates_then coords.old (fields_of sizes.now (words line.now))) }
+    ensures fields { Reads result (λ found. (coords.new.items, found.0)) (coordinates_then coords.old.items (fields_of sizes.now (words line.now))) }
     ensures counted { IfOk result (λ found. length (words line.now) ≡ length sizes.now + 1 + length (words found.1.now)) }
 {
     let mut rest = line;
@@ -85,9 +85,9 @@ fn read_fields<'a>(
 
 /// Reads the line of an entry, and appends its coordinates. Its words are counted only where something is wrong with it: what is
 /// wrong with their number comes first.
-pub fn read_entry(coords: &mut Nums, sizes: &Nums, line: &[u8]) -> Result<u64, LineFault>
+pub fn read_entry(coords: &mut Vec<u64>, sizes: &Nums, line: &[u8]) -> Result<u64, LineFault>
     requires { length sizes.now ≤ VARIABLES_MOST }
-    ensures { Reads result (λ value. (coords.new, value)) (coordinates_then coords.old (line_entry sizes.now (words line.now))) }
+    ensures { Reads result (λ value. (coords.new.items, value)) (coordinates_then coords.old.items (line_entry sizes.now (words line.now))) }
 {
     match read_fields(coords, sizes.as_slice(), line) {
         Ok((value, rest)) => match first_word(rest) {

@@ -5,6 +5,7 @@ mod entries;
 mod faults;
 mod fields;
 mod paths;
+mod plain;
 mod results;
 mod values;
 

@@ -9,8 +9,8 @@ abbrev pub invariant-loop-from : goal.invariant-loop-from
 invariant-loop-from l = record {
   in_text : l.from ≤ length l.text;
   numbered : l.number ≤ l.from + 1;
-  whole : length l.coords ≡ length l.dims * length l.values;
-  same : entries_after (entry_list (length l.dims) l.coords l.values) (entries_of l.dims (length l.values) (entry_lines l.number (lines (drop l.from l.text)))) ≡ tns_entries l.dims l.text;
+  whole : length l.coords.items ≡ length l.dims * length l.values.items;
+  same : entries_after (entry_list (length l.dims) l.coords.items l.values.items) (entries_of l.dims (length l.values.items) (entry_lines l.number (lines (drop l.from l.text)))) ≡ tns_entries l.dims l.text;
 }
 
 abbrev pub decreases-loop-from : goal.decreases-loop-from
