@@ -1,12 +1,12 @@
 -- Worked rows: the workloads of 1 and of 2.
 use Rattle.std.specs.Prelude.{◌≡◌, ℕ, List, length, refl}
-use Rattle.sam_model.specs.Denote.{result_entries}
+use Rattle.sam_model.specs.Statement.{statement_entries}
 use Rattle.custard_lower.specs.Lowered.{low, storages_of}
 use Rattle.gen_data.specs.Workload.{workload, workload_entries}
 use Rattle.large.specs.Summaries.{value_sum, moves_of}
 
 abbrev entries_of : ℕ → List (List ℕ × ℕ)
-entries_of n = result_entries (workload n) (workload_entries n)
+entries_of n = statement_entries (workload n) (workload_entries n)
 
 abbrev moves_at : ℕ → ℕ
 moves_at n = moves_of (storages_of (workload n) (workload_entries n)) (low (workload n))

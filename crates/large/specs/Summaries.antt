@@ -3,7 +3,7 @@ use Rattle.std.specs.Prelude.{ℕ, ◌-◌, ◌*◌, ◌%◌, ◌^◌, min, List
 use Rattle.sam_model.specs.declared.tensors.Entries.{Entries}
 use Rattle.sam_model.specs.declared.program.Program.{Program}
 use Rattle.sam_model.specs.Children.{Ranked}
-use Rattle.sam_model.specs.Denote.{result_entries}
+use Rattle.sam_model.specs.Statement.{statement_entries}
 use Rattle.sam_model.specs.ResultText.{signed_text}
 use Rattle.graph.specs.declared.graphs.Graph.{Graph}
 use Rattle.graph.specs.WholeStreams.{whole_stream}
@@ -30,7 +30,7 @@ moves_of storages g = min (2 * sum_below (length g.channels) (λ c. length (whol
 
 -- what is told of a program's run over these entries
 abbrev pub summary_of : Program → List Entries → List ℕ
-summary_of p es = summary_text (length (result_entries p es)) (value_sum (result_entries p es)) (moves_of (storages_of p es) (low p))
+summary_of p es = summary_text (length (statement_entries p es)) (value_sum (statement_entries p es)) (moves_of (storages_of p es) (low p))
 
 -- what is told of the run of the generated workload
 unfoldable pub large_text : ℕ → List ℕ

@@ -10,7 +10,7 @@ use Rattle.sam_model.specs.declared.program.Program.{Program}
 use Rattle.sam_model.specs.Children.{Ranked}
 use Rattle.sam_model.specs.Program.{accepted}
 use Rattle.sam_model.specs.Lists.{below}
-use Rattle.sam_model.specs.ResultText.{result_text}
+use Rattle.sam_model.specs.Statement.{statement_text}
 use Rattle.graph.specs.declared.graphs.Graph.{Graph}
 use Rattle.graph.specs.Wiring.{WellFormed}
 use Rattle.graph.specs.WholeStreams.{Consistent}
@@ -60,12 +60,12 @@ module _ (p : Program) (es : List Entries) (storages : List Ranked) (g : Graph) 
       (a : Result (List ℕ) Fault) × AnsweredAt p es net end a
   some_at end reached [] none =
       let kept = always-kept net (rooms_of caps) end (graphs-are-wired storages g formed consistent) reached in
-      (Ok (result_text p es), (none_waiting net (rooms_of caps) end kept none, refl))
+      (Ok (statement_text p es), (none_waiting net (rooms_of caps) end kept none, refl))
   some_at end reached (w ∷ list) waits =
       (Err (Stalled (waiting_list net end)), (some_waiting net end (λ none. cc), refl))
 
   -- at a finished state the tensor is answered
-  finished_at : (end : State) (a : Result (List ℕ) Fault) → Finished net end → AnsweredAt p es net end a → a ≡ Ok (result_text p es)
+  finished_at : (end : State) (a : Result (List ℕ) Fault) → Finished net end → AnsweredAt p es net end a → a ≡ Ok (statement_text p es)
   finished_at end (Ok text) finished (other, is) = ap Ok is
   finished_at end (Err f) finished (unfinished, is) = absurd (unfinished finished)
 

@@ -13,6 +13,7 @@ use Rattle.graph.specs.declared.graphs.Graph.{Graph}
 use Rattle.plays.specs.Net.{Net, State, Finished}
 use Rattle.stepper.specs.NetOf.{net_of, rooms_of}
 use Rattle.stepper.specs.Endings.{waiting_list, EndsAt, StallsAt}
+use Rattle.expand.proofs.AcceptedTerms.{terms-text}
 use Rattle.custard_lower.specs.Lowered.{Lowered, low, storages_of}
 use Rattle.inputs.specs.Tensors.{AreStored}
 use Rattle.machines.proofs.ProgramMachines.{same-net}
@@ -48,5 +49,5 @@ module _ (p : Program) (g : Graph) (lowered : Lowered p g) (is_accepted : accept
     each = are.each;
     end = left.end;
     ends = ends_alike left.end left.ends;
-    answered = (subst (λ (net : Net). Finished net left.end) same left.finished, is_text);
+    answered = (subst (λ (net : Net). Finished net left.end) same left.finished, is_text ∙ terms-text p es is_accepted);
   }

@@ -4,7 +4,7 @@ use Rattle.sam_base.specs.declared.faults.Fault.{Fault}
 use Rattle.sam_model.specs.declared.tensors.Entries.{Entries}
 use Rattle.sam_model.specs.declared.program.Program.{Program}
 use Rattle.sam_model.specs.Program.{accepted}
-use Rattle.sam_model.specs.ResultText.{result_text}
+use Rattle.sam_model.specs.Statement.{statement_text}
 use Rattle.graph.specs.WholeStreams.{whole_stream}
 use Rattle.plays.specs.Net.{AtMost}
 use Rattle.stepper.specs.NetOf.{rooms_of}
@@ -34,10 +34,10 @@ AmpleRoom p es caps =
 abbrev pub AmpleRoomFinishes : Type 0
 AmpleRoomFinishes =
     (p : Program) (es : List Entries) (caps : List (Option ℕ)) (a : Result (List ℕ) Fault) → AmpleRoom p es caps →
-    RunsTo p es caps a → a ≡ Ok (result_text p es)
+    RunsTo p es caps a → a ≡ Ok (statement_text p es)
 
 -- So does one for which no capacity is given.
 abbrev pub UnlimitedFinishes : Type 0
 UnlimitedFinishes =
     (p : Program) (es : List Entries) (caps : List (Option ℕ)) (a : Result (List ℕ) Fault) →
-    capacities_of (length (low p).channels) None [] ≡ Ok caps → RunsTo p es caps a → a ≡ Ok (result_text p es)
+    capacities_of (length (low p).channels) None [] ≡ Ok caps → RunsTo p es caps a → a ≡ Ok (statement_text p es)

@@ -7,7 +7,7 @@ use Rattle.sam_model.specs.declared.tensors.Written.{Written}
 use Rattle.sam_model.specs.declared.program.Program.{Program}
 use Rattle.sam_model.specs.Children.{Ranked}
 use Rattle.sam_model.specs.Program.{accepted}
-use Rattle.sam_model.specs.ResultText.{result_text}
+use Rattle.sam_model.specs.Statement.{statement_text}
 use Rattle.graph.specs.declared.graphs.Graph.{Graph}
 use Rattle.graph.specs.Writers.{written_listing}
 use Rattle.plays.specs.Net.{Net, State, Finished}
@@ -18,9 +18,9 @@ use Rattle.parts.specs.Parts.{Part}
 use Rattle.runs.specs.declared.running.Outcome.{Outcome}
 use Rattle.runs.specs.declared.running.Outcome.TheVariants.{Listing, Waits}
 
--- what is answered at that state: the denoted tensor where all blocks are finished, else the blocks that wait
+-- what is answered at that state: the tensor that the statement denotes where all blocks are finished, else the blocks that wait
 abbrev pub AnsweredAt : Program → List Entries → Net → State → Result (List ℕ) Fault → Type 0
-AnsweredAt p es net end (Ok text) = Finished net end × (text ≡ result_text p es)
+AnsweredAt p es net end (Ok text) = Finished net end × (text ≡ statement_text p es)
 AnsweredAt p es net end (Err fault) = ¬ Finished net end × (fault ≡ Stalled (waiting_list net end))
 
 -- A run of an accepted program's graph over its entries, under these capacities, whatever was played first.

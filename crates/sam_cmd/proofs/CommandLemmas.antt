@@ -4,7 +4,7 @@ use Rattle.std.specs.Prelude.{codes, Ok, Err}
 use Rattle.sam_base.specs.declared.faults.Fault.TheVariants.{Usage}
 use Rattle.sam_model.specs.declared.tensors.Entries.{Entries}
 use Rattle.sam_model.specs.declared.program.Program.{Program}
-use Rattle.sam_model.specs.ResultText.{result_text}
+use Rattle.sam_model.specs.Statement.{statement_text}
 use Rattle.graph.specs.declared.graphs.Graph.{Graph}
 use Rattle.custard_lower.specs.Lowered.{low}
 use Rattle.graph_json.specs.Spelled.{graph_text}
@@ -70,7 +70,7 @@ one_running wanted program options = one_setting options (wanted_part wanted) (o
 
 module _ (program : List ℕ) where
   abbrev tensor_text : Program → List Entries → Part (List ℕ)
-  tensor_text p entries = gives (Ok (result_text p entries))
+  tensor_text p entries = gives (Ok (statement_text p entries))
 
   abbrev over : Program → Graph → Part (List ℕ)
   over p g = followed (each_part tensor_part p.tensors) (tensor_text p)
@@ -79,7 +79,7 @@ module _ (program : List ℕ) where
   one_threads =
       one_followed (program_part program) (λ p. followed (gives (threads_for (low p))) (over p)) (one_program program) (λ p.
       one_followed (gives (threads_for (low p))) (over p) (one_gives (threads_for (low p))) (λ g.
-      one_over p.tensors (tensor_text p) (λ entries. one_gives (Ok (result_text p entries)))))
+      one_over p.tensors (tensor_text p) (λ entries. one_gives (Ok (statement_text p entries)))))
 
 one_text : (command : Command) → AtMostOne (text_part command)
 one_text (Check program) = one_check program

@@ -4,7 +4,7 @@ use Rattle.sam_base.specs.declared.faults.Fault.{Fault}
 use Rattle.sam_base.specs.declared.faults.Fault.TheVariants.{Usage}
 use Rattle.sam_model.specs.declared.program.Program.{Program}
 use Rattle.sam_model.specs.declared.tensors.Entries.{Entries}
-use Rattle.sam_model.specs.ResultText.{result_text}
+use Rattle.sam_model.specs.Statement.{statement_text}
 use Rattle.custard_lower.specs.Lowered.{low}
 use Rattle.graph_json.specs.Spelled.{graph_text}
 use Rattle.traces.specs.Traces.{streams_of, moment_of}
@@ -59,7 +59,7 @@ threads_part program =
     followed (program_part program) (λ p.
     followed (gives (threads_for (low p))) (λ g.
     followed (each_part tensor_part p.tensors) (λ entries.
-    gives (Ok (result_text p entries)))))
+    gives (Ok (statement_text p entries)))))
 
 abbrev pub large_part : ℕ → Part (List ℕ)
 large_part number = gives (Ok (large_text number))

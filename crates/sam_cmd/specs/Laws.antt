@@ -3,7 +3,7 @@ use Rattle.std.specs.Prelude.{◌≤◌, ℕ, List, Option, Ok, length}
 use Rattle.sam_io.specs.Outside.{Told}
 use Rattle.sam_model.specs.declared.tensors.Entries.{Entries}
 use Rattle.sam_model.specs.declared.program.Program.{Program}
-use Rattle.sam_model.specs.ResultText.{result_text}
+use Rattle.sam_model.specs.Statement.{statement_text}
 use Rattle.custard_lower.specs.Lowered.{low}
 use Rattle.parts.specs.Parts.{each_part}
 use Rattle.inputs.specs.Programs.{program_part}
@@ -22,11 +22,11 @@ StepCompletes =
     (told : Option Told) (program : List ℕ) (options : Options) (p : Program) (setup : Setup) (entries : List Entries) →
     program_part program told (Ok p) → setup_part (low p) options told (Ok setup) →
     each_part tensor_part p.tensors told (Ok entries) → AmpleRoom p entries setup.capacities.each →
-    running_part Result program options told (Ok (result_text p entries))
+    running_part Result program options told (Ok (statement_text p entries))
 
 -- `run` answers it where the graph isn't too large.
 abbrev pub RunCompletes : Type 0
 RunCompletes =
     (told : Option Told) (program : List ℕ) (p : Program) (entries : List Entries) →
     program_part program told (Ok p) → length (low p).blocks ≤ THREADS_MOST →
-    each_part tensor_part p.tensors told (Ok entries) → threads_part program told (Ok (result_text p entries))
+    each_part tensor_part p.tensors told (Ok entries) → threads_part program told (Ok (statement_text p entries))

@@ -5,7 +5,7 @@ ghost use Rattle.sam_base.specs.declared.TheConstants.{CAPACITY_MOST};
 ghost use Rattle.sam_io.specs.Spans.{KeepsFiles, files_span};
 ghost use Rattle.sam_model.specs.declared.tensors.Entries.{Entries};
 ghost use Rattle.sam_model.specs.Program.{accepted};
-ghost use Rattle.sam_model.specs.ResultText.{result_text};
+ghost use Rattle.sam_model.specs.Statement.{statement_text};
 ghost use Rattle.custard_lower.specs.Lowered.{Lowered, low};
 ghost use Rattle.parts.specs.Parts.{gives, followed, each_part};
 ghost use Rattle.parts.specs.Answers.{Comes, ComesAlways};
@@ -51,7 +51,7 @@ fn tensors_text<F: Files, G: Gate + Sync, R: Threads + Wait + Sync>(
     requires lowered { Lowered p.now g.now }
     requires capacity { (1 ≤ capacity) × (capacity ≤ CAPACITY_MOST) }
     ensures keeps { KeepsFiles F.Files files.old files.new }
-    ensures comes { Comes (followed (each_part tensor_part p.now.tensors) (λ entries. gives (Ok (result_text p.now entries))))
+    ensures comes { Comes (followed (each_part tensor_part p.now.tensors) (λ entries. gives (Ok (statement_text p.now entries))))
         (files_span F.Files files.old files.new) result }
 {
     match storages(alloc, files, p.tensors.as_slice()) {
@@ -76,7 +76,7 @@ fn program_text<F: Files, G: Gate + Sync, R: Threads + Wait + Sync>(
     requires capacity { (1 ≤ capacity) × (capacity ≤ CAPACITY_MOST) }
     ensures keeps { KeepsFiles F.Files files.old files.new }
     ensures comes { Comes (followed (gives (threads_for (low p.now))) (λ g.
-        followed (each_part tensor_part p.now.tensors) (λ entries. gives (Ok (result_text p.now entries)))))
+        followed (each_part tensor_part p.now.tensors) (λ entries. gives (Ok (statement_text p.now entries)))))
         (files_span F.Files files.old files.new) result }
 {
     match threaded_graph(alloc, p) {

@@ -4,7 +4,7 @@ ghost use Rattle.std.specs.Prelude.{◌≡◌, ◌≤◌, List, true, IfOk};
 ghost use Rattle.sam_base.specs.declared.TheConstants.{CAPACITY_MOST};
 ghost use Rattle.sam_model.specs.declared.tensors.Entries.{Entries};
 ghost use Rattle.sam_model.specs.Program.{accepted};
-ghost use Rattle.sam_model.specs.ResultText.{result_text};
+ghost use Rattle.sam_model.specs.Statement.{statement_text};
 ghost use Rattle.graph.specs.Writers.{written_listing};
 ghost use Rattle.custard_lower.specs.Lowered.{Lowered};
 ghost use Rattle.inputs.specs.Tensors.{AreStored};
@@ -40,7 +40,7 @@ fn run_writers<G: Gate + Sync, R: Threads + Wait + Sync>(
     gather(alloc, g, finished.as_slice(), levels)
 }
 
-/// The text of the tensor that a program denotes, from its graph and its tensors as they are stored. The graph runs with a
+/// The text of the tensor that a program's statement denotes, from its graph and its tensors as they are stored. The graph runs with a
 /// thread for every block, on wires that hold at most `capacity` messages, from 1 to `CAPACITY_MOST`.
 ///
 /// The one refusal is want of memory. No proof says that the run ends: where the capacity is too small, it may wait for ever.
@@ -58,7 +58,7 @@ pub fn run_threads<G: Gate + Sync, R: Threads + Wait + Sync>(
     requires stored { (entries : List Entries) × AreStored p.now.tensors entries storages.now }
     requires capacity { (1 ≤ capacity) × (capacity ≤ CAPACITY_MOST) }
     ensures { (entries : List Entries) → AreStored p.now.tensors entries storages.now →
-        IfOk result (λ text. text ≡ result_text p.now entries) }
+        IfOk result (λ text. text ≡ statement_text p.now entries) }
 {
     let levels = p.result.order.len() as u8;
     let written = run_writers(rt, alloc, g, storages, levels, capacity, gate)?;

@@ -26,7 +26,7 @@ returns c =
     let s = c.in_ok-summary.summary in
     let stored = subst (λ (l : List Ranked). AreStored p.tensors es l) (sym c.as_slice.ensures) c.in_ok-program.ensures.stored in
     let told =
-    summary-told p g c.in_ok-graph.ensures es c.as_slice.result.now stored s.entries s.values s.moves
+    summary-told p c.in_ok-program.ensures.accepted g c.in_ok-graph.ensures es c.as_slice.result.now stored s.entries s.values s.moves
     c.in_ok-summary.ensures.entries c.in_ok-summary.ensures.values c.in_ok-summary.ensures.moves in
     IfOk-weaker c.text.result _ _
     (λ text is. is ∙ told ∙ ap (λ (q : Program). summary_of q es) c.in_ok-program.ensures.program)

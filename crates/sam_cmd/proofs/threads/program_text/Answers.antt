@@ -1,6 +1,6 @@
 use Rattle.std.specs.Prelude.{Ok}
 use Rattle.sam_io.specs.Spans.{files_span}
-use Rattle.sam_model.specs.ResultText.{result_text}
+use Rattle.sam_model.specs.Statement.{statement_text}
 use Rattle.graph.specs.declared.graphs.Graph.{Graph}
 use Rattle.custard_lower.specs.Lowered.{low}
 use Rattle.parts.specs.Parts.{gives, followed, each_part}
@@ -14,7 +14,7 @@ returns-in-Err-clause-comes g c =
     let p = c.args.p.now in
     let files = files_span g.F.Files c.args.files.now c.args.files.now in
     comes_first (gives (threads_for (low p)))
-    (λ (g : Graph). followed (each_part tensor_part p.tensors) (λ entries. gives (Ok (result_text p entries)))) files c.in-Err.fault
+    (λ (g : Graph). followed (each_part tensor_part p.tensors) (λ entries. gives (Ok (statement_text p entries)))) files c.in-Err.fault
     (c.in-Err.ensures.comes files)
 
 pub returns-in-Ok-clause-comes : goal.returns-in-Ok-clause-comes
@@ -22,5 +22,5 @@ returns-in-Ok-clause-comes g c =
     let p = c.args.p.now in
     let files = files_span g.F.Files c.args.files.now c.tensors_text.new.files in
     comes_from (gives (threads_for (low p)))
-    (λ (g : Graph). followed (each_part tensor_part p.tensors) (λ entries. gives (Ok (result_text p entries)))) files c.in-Ok.graph
+    (λ (g : Graph). followed (each_part tensor_part p.tensors) (λ entries. gives (Ok (statement_text p entries)))) files c.in-Ok.graph
     c.tensors_text.result c.in-Ok.ensures.comes c.tensors_text.ensures.comes

@@ -3,7 +3,7 @@ use Rattle.std.specs.Prelude.{Ok, Err}
 use Rattle.sam_io.specs.Spans.{files_span}
 use Rattle.sam_model.specs.declared.tensors.Tensor.{Tensor}
 use Rattle.sam_model.specs.Children.{Ranked}
-use Rattle.sam_model.specs.ResultText.{result_text}
+use Rattle.sam_model.specs.Statement.{statement_text}
 use Rattle.parts.specs.Parts.{gives, each_part}
 use Rattle.parts.specs.Answers.{Comes}
 use Rattle.inputs.specs.Tensors.{stored_part, AreStored}
@@ -14,7 +14,7 @@ pub returns-in-Err-clause-comes : goal.returns-in-Err-clause-comes
 returns-in-Err-clause-comes g c =
     let p = c.args.p.now in
     let files = files_span g.F.Files c.args.files.now c.storages.new.files in
-    comes_refused p.tensors (λ entries. gives (Ok (result_text p entries))) files c.in-Err.fault
+    comes_refused p.tensors (λ entries. gives (Ok (statement_text p entries))) files c.in-Err.fault
     (subst (λ (ts : List Tensor). Comes (each_part stored_part ts) files (Err c.in-Err.fault)) c.as_slice.ensures c.in-Err.ensures.comes)
 
 pub returns-in-Ok-run_threads-clause-comes : goal.returns-in-Ok-run_threads-clause-comes
@@ -25,7 +25,7 @@ returns-in-Ok-run_threads-clause-comes g c =
     let stored =
     subst (λ (ts : List Tensor). each_part stored_part ts files.told (Ok storages)) c.as_slice.ensures
     c.in-Ok.ensures.comes in
-    comes_over p.tensors (λ entries. gives (Ok (result_text p entries))) files storages (Ok c.in-Ok-run_threads.text) stored
+    comes_over p.tensors (λ entries. gives (Ok (statement_text p entries))) files storages (Ok c.in-Ok-run_threads.text) stored
     (λ entries are. λ files.
     ap Ok (c.in-Ok-run_threads.ensures entries
     (subst (λ (s : List Ranked). AreStored p.tensors entries s) (sym c.as_slice-in-Ok.ensures) are)))

@@ -2,6 +2,7 @@ use Rattle.std.proofs.Common.{◌∙◌, ap}
 use Rattle.std.proofs.lemmas.Result.{IfOk-weaker}
 use Rattle.sam_model.specs.Listing.{listing}
 use Rattle.sam_model.specs.ResultText.{listing_text}
+use Rattle.expand.proofs.AcceptedTerms.{terms-text}
 use Rattle.graph.specs.Writers.{written_listing}
 use Rattle.machines.proofs.ProgramMachines.{program-runs}
 use Rattle.runs.proofs.AcceptedPrograms.{dims-fit}
@@ -34,4 +35,5 @@ returns g c = λ entries are.
     let storages = c.args.storages.now in
     let written = c.in_ok-written.ensures ∙ ap (written_listing storages graph) c.len-levels.ensures in
     let tensor = ap listing written ∙ written-tensor p graph c.requires.lowered entries storages are in
-    IfOk-weaker c.result_text.result _ _ (λ text is. is ∙ ap (listing_text p.result.order) tensor) c.result_text.ensures
+    IfOk-weaker c.result_text.result _ _
+    (λ text is. is ∙ ap (listing_text p.result.order) tensor ∙ terms-text p entries c.requires.accepted) c.result_text.ensures
