@@ -25,6 +25,8 @@ mod refusals;
 #[cfg(test)]
 mod results;
 #[cfg(test)]
+mod sizes;
+#[cfg(test)]
 mod threads;
 #[cfg(test)]
 mod transcripts;

@@ -1,2 +1,3 @@
 pub mod UnboundedRuns
 pub mod ProgramMachines
+pub mod MadeAnew

@@ -1,12 +1,15 @@
 //! The machine of a graph over stored tensors, at its start.
 #![tactic(auto)]
 
+mod anew;
+
 ghost use Rattle.std.specs.Prelude.{◌≡◌, None, length, replicate, IfOk};
 ghost use Rattle.plays.specs.Net.{start};
 ghost use Rattle.stepper.specs.Capacity.{CapacitiesFor};
 ghost use Rattle.stepper.specs.AtState.{AtState};
 ghost use Rattle.machines.specs.Runnable.{Runnable};
 
+pub use anew::BlocksAnew;
 use any_block::{AnyBlock, assemble};
 use block_core::BlockStep;
 use graph::Graph;

@@ -2,6 +2,8 @@ pub mod AcceptedPrograms
 pub mod CapacityLemmas
 pub mod OneRun
 pub mod RunLaws
+pub mod SizeLaws
 pub mod RunLemmas
 mod Worked
 pub mod WrittenResults
+pub mod SizeLemmas

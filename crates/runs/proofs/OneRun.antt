@@ -13,7 +13,9 @@ use Rattle.runs.specs.declared.setup.Setup.{Setup}
 use Rattle.runs.specs.Capacities.{capacities_of}
 use Rattle.runs.specs.Setups.{schedule_part, with_schedule, setup_part}
 use Rattle.runs.specs.Runs.{run_part}
+use Rattle.runs.specs.Sizes.{size_part}
 use Rattle.runs.proofs.RunLaws.{runs-to-one-answer}
+use Rattle.runs.proofs.SizeLaws.{sizes-to-one-answer}
 
 one_schedule : (blocks : ℕ) (name : Option (List ℕ)) → AtMostOne (schedule_part blocks name)
 one_schedule blocks None = one_gives (Ok [])
@@ -37,3 +39,6 @@ one_setup g options =
 
 pub one_run : (p : Program) (es : List Entries) (caps : List (Option ℕ)) → AtMostOne (run_part p es caps)
 one_run p es caps m a b due other ra rb = runs-to-one-answer p es caps a b ra rb
+
+pub one_size : (p : Program) (es : List Entries) → AtMostOne (size_part p es)
+one_size p es m a b due other sa sb = sizes-to-one-answer p es a b sa sb

@@ -72,10 +72,10 @@ module _ (p : Program) (es : List Entries) (storages : List Ranked) (g : Graph) 
 -- ---- of a program's graph
 
 module _ (p : Program) (es : List Entries) (is_accepted : accepted p ≡ true) (each : length es ≡ length p.tensors) where
-  low-formed : WellFormed (low p)
+  pub low-formed : WellFormed (low p)
   low-formed = (low-keeps p is_accepted).formed
 
-  low-consistent : Consistent (storages_of p es) (low p)
+  pub low-consistent : Consistent (storages_of p es) (low p)
   low-consistent = ((low-keeps p is_accepted).carries es each).consistent
 
 pub runs-to-one-answer : RunsToOneAnswer

@@ -1,16 +1,19 @@
 -- The laws of runs of a program's graph.
 use Rattle.std.specs.Prelude.{◌≡◌, ◌<◌, true, ℕ, List, [], length, Option, Some, None, Result, Ok}
+use Rattle.sam_base.specs.declared.TheConstants.{CAPACITY_MOST}
 use Rattle.sam_base.specs.declared.faults.Fault.{Fault}
+use Rattle.sam_base.specs.declared.faults.Waiting.{Waiting}
 use Rattle.sam_model.specs.declared.tensors.Entries.{Entries}
 use Rattle.sam_model.specs.declared.program.Program.{Program}
 use Rattle.sam_model.specs.Program.{accepted}
 use Rattle.sam_model.specs.Statement.{statement_text}
 use Rattle.graph.specs.WholeStreams.{whole_stream}
-use Rattle.plays.specs.Net.{AtMost}
-use Rattle.stepper.specs.NetOf.{rooms_of}
+use Rattle.plays.specs.Net.{AtMost, Suffices}
+use Rattle.stepper.specs.NetOf.{net_of, rooms_of}
 use Rattle.custard_lower.specs.Lowered.{low, storages_of}
 use Rattle.runs.specs.Capacities.{capacities_of}
 use Rattle.runs.specs.Runs.{RunsTo}
+use Rattle.runs.specs.Sizes.{SizesTo, size_text}
 
 -- A run has one answer, whatever is played first.
 abbrev pub RunsToOneAnswer : Type 0
@@ -41,3 +44,15 @@ abbrev pub UnlimitedFinishes : Type 0
 UnlimitedFinishes =
     (p : Program) (es : List Entries) (caps : List (Option ℕ)) (a : Result (List ℕ) Fault) →
     capacities_of (length (low p).channels) None [] ≡ Ok caps → RunsTo p es caps a → a ≡ Ok (statement_text p es)
+
+-- Of the room that a run needs there is one answer.
+abbrev pub SizesToOneAnswer : Type 0
+SizesToOneAnswer =
+    (p : Program) (es : List Entries) (a b : Result (List ℕ) Fault) → SizesTo p es a → SizesTo p es b → a ≡ b
+
+-- Where the largest capacity suffices, the answer is the least one.
+abbrev pub SufficingIsSized : Type 0
+SufficingIsSized =
+    (p : Program) (es : List Entries) → accepted p ≡ true → length es ≡ length p.tensors →
+    Suffices (net_of (storages_of p es) (low p)) CAPACITY_MOST →
+    (capacity : ℕ) × (below : List Waiting) × SizesTo p es (Ok (size_text capacity below))

@@ -3,6 +3,7 @@
 //! Each function has no body but its contract, which speaks of the same answers as that of `run_program`.
 
 ghost use Rattle.runs.specs.Laws.{RunsToOneAnswer, RunsToSomeAnswer, AmpleRoomFinishes, UnlimitedFinishes};
+ghost use Rattle.runs.specs.Laws.{SizesToOneAnswer, SufficingIsSized};
 
 /// Whatever is played first, a run under given capacities has one answer.
 pub fn runs_to_one_answer()
@@ -22,4 +23,14 @@ pub fn ample_room_finishes()
 /// Where no capacity is given, a run never stalls.
 pub fn unlimited_finishes()
     ensures { UnlimitedFinishes }
+{}
+
+/// Of the room that a run needs there is one answer.
+pub fn sizes_to_one_answer()
+    ensures { SizesToOneAnswer }
+{}
+
+/// Where the largest capacity suffices, the answer is the least one.
+pub fn sufficing_is_sized()
+    ensures { SufficingIsSized }
 {}

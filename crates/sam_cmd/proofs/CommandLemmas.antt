@@ -17,16 +17,17 @@ use Rattle.inputs.specs.Programs.{program_part}
 use Rattle.inputs.specs.Tensors.{tensor_part}
 use Rattle.inputs.proofs.OneInput.{one_program}
 use Rattle.words.specs.declared.asking.Command.{Command}
-use Rattle.words.specs.declared.asking.Command.TheVariants.{Check, Lower, Streams, Step, Moment, Run, Large}
+use Rattle.words.specs.declared.asking.Command.TheVariants.{Check, Lower, Streams, Step, Moment, Run, Size, Large}
 use Rattle.words.specs.declared.asking.Options.{Options}
 use Rattle.words.specs.Asked.{asked_of}
 use Rattle.runs.specs.declared.setup.Setup.{Setup}
 use Rattle.runs.specs.Setups.{setup_part}
-use Rattle.runs.proofs.OneRun.{one_setup, one_run}
+use Rattle.runs.specs.Sizes.{size_part}
+use Rattle.runs.proofs.OneRun.{one_setup, one_run, one_size}
 use Rattle.thread_runs.specs.ThreadsFor.{threads_for}
 use Rattle.sam_cmd.specs.declared.running.Wanted.{Wanted}
 use Rattle.sam_cmd.specs.declared.running.Wanted.TheVariants as wanted
-use Rattle.sam_cmd.specs.Commands.{asked_or_usage, check_part, lower_part, streams_part, wanted_part, running_part, threads_part}
+use Rattle.sam_cmd.specs.Commands.{asked_or_usage, check_part, lower_part, streams_part, wanted_part, running_part, threads_part, sizing_part}
 use Rattle.sam_cmd.specs.Commands.{text_part, answer_part, serial_text_part, serial_part}
 use Rattle.sam_cmd.proofs.TensorLemmas.{one_over}
 
@@ -81,6 +82,11 @@ module _ (program : List ℕ) where
       one_followed (gives (threads_for (low p))) (over p) (one_gives (threads_for (low p))) (λ g.
       one_over p.tensors (tensor_text p) (λ entries. one_gives (Ok (statement_text p entries)))))
 
+one_sizing : (program : List ℕ) → AtMostOne (sizing_part program)
+one_sizing program =
+    one_followed (program_part program) (λ p. followed (each_part tensor_part p.tensors) (size_part p)) (one_program program)
+    (λ p. one_over p.tensors (size_part p) (one_size p))
+
 one_text : (command : Command) → AtMostOne (text_part command)
 one_text (Check program) = one_check program
 one_text (Lower program) = one_lower program
@@ -88,6 +94,7 @@ one_text (Streams program) = one_streams program
 one_text (Step program options) = one_running wanted.Result program options
 one_text (Moment program options) = one_running wanted.Moment program options
 one_text (Run program capacity) = one_threads program
+one_text (Size program) = one_sizing program
 one_text (Large number) = one_gives (Ok (large_text number))
 
 pub one_answer : (words : List (List ℕ)) → AtMostOne (answer_part words)

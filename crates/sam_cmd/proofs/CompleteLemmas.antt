@@ -17,7 +17,8 @@ use Rattle.graph.specs.declared.graphs.Graph.{Graph}
 use Rattle.custard_lower.specs.Lowered.{low}
 use Rattle.thread_runs.specs.declared.TheConstants.{THREADS_MOST}
 use Rattle.thread_runs.specs.ThreadsFor.{threads_for}
-use Rattle.sam_cmd.specs.Laws.{StepCompletes, RunCompletes}
+use Rattle.runs.proofs.SizeLaws.{sufficing-is-sized}
+use Rattle.sam_cmd.specs.Laws.{StepCompletes, RunCompletes, SizeCompletes}
 
 -- a list of parts gives as many
 each_length : {A B : Type 0} (f : A → Part B) (told : Option Told) (xs : List A) (ys : List B) → each_part f xs told (Ok ys) →
@@ -48,3 +49,9 @@ few_threads g few =
 
 pub run-completes : RunCompletes
 run-completes told program p entries read few stored = (p, read, (low p, few_threads (low p) few, (entries, stored, refl)))
+
+pub size-completes : SizeCompletes
+size-completes told program p entries read stored enough =
+    let sized =
+    sufficing-is-sized p entries (read_accepted told program p read) (each_length tensor_part told p.tensors entries stored) enough in
+    (sized.0, sized.1, (p, read, (entries, stored, sized.2)))

@@ -13,12 +13,13 @@ use Rattle.parts.specs.Parts.{Part, gives, followed, each_part}
 use Rattle.inputs.specs.Programs.{program_part}
 use Rattle.inputs.specs.Tensors.{tensor_part}
 use Rattle.words.specs.declared.asking.Command.{Command}
-use Rattle.words.specs.declared.asking.Command.TheVariants.{Check, Lower, Streams, Step, Moment, Run, Large}
+use Rattle.words.specs.declared.asking.Command.TheVariants.{Check, Lower, Streams, Step, Moment, Run, Size, Large}
 use Rattle.words.specs.declared.asking.Options.{Options}
 use Rattle.words.specs.Asked.{asked_of}
 use Rattle.runs.specs.declared.setup.Setup.{Setup}
 use Rattle.runs.specs.Setups.{setup_part}
 use Rattle.runs.specs.Runs.{run_part}
+use Rattle.runs.specs.Sizes.{size_part}
 use Rattle.thread_runs.specs.ThreadsFor.{threads_for}
 use Rattle.sam_cmd.specs.declared.running.Wanted.{Wanted}
 use Rattle.sam_cmd.specs.declared.running.Wanted.TheVariants as wanted
@@ -61,6 +62,12 @@ threads_part program =
     followed (each_part tensor_part p.tensors) (λ entries.
     gives (Ok (statement_text p entries)))))
 
+-- The least capacity of the program's graph.
+abbrev pub sizing_part : List ℕ → Part (List ℕ)
+sizing_part program =
+    followed (program_part program) (λ p.
+    followed (each_part tensor_part p.tensors) (size_part p))
+
 abbrev pub large_part : ℕ → Part (List ℕ)
 large_part number = gives (Ok (large_text number))
 
@@ -72,6 +79,7 @@ text_part (Streams program) = streams_part program
 text_part (Step program options) = running_part wanted.Result program options
 text_part (Moment program options) = running_part wanted.Moment program options
 text_part (Run program capacity) = threads_part program
+text_part (Size program) = sizing_part program
 text_part (Large number) = large_part number
 
 -- what the words answer

@@ -1,10 +1,14 @@
 -- Where all that a command reads is accepted, it has its text.
 use Rattle.std.specs.Prelude.{◌≤◌, ℕ, List, Option, Ok, length}
+use Rattle.sam_base.specs.declared.TheConstants.{CAPACITY_MOST}
+use Rattle.sam_base.specs.declared.faults.Waiting.{Waiting}
 use Rattle.sam_io.specs.Outside.{Told}
 use Rattle.sam_model.specs.declared.tensors.Entries.{Entries}
 use Rattle.sam_model.specs.declared.program.Program.{Program}
 use Rattle.sam_model.specs.Statement.{statement_text}
-use Rattle.custard_lower.specs.Lowered.{low}
+use Rattle.plays.specs.Net.{Suffices}
+use Rattle.stepper.specs.NetOf.{net_of}
+use Rattle.custard_lower.specs.Lowered.{low, storages_of}
 use Rattle.parts.specs.Parts.{each_part}
 use Rattle.inputs.specs.Programs.{program_part}
 use Rattle.inputs.specs.Tensors.{tensor_part}
@@ -12,9 +16,10 @@ use Rattle.words.specs.declared.asking.Options.{Options}
 use Rattle.runs.specs.declared.setup.Setup.{Setup}
 use Rattle.runs.specs.Setups.{setup_part}
 use Rattle.runs.specs.Laws.{AmpleRoom}
+use Rattle.runs.specs.Sizes.{size_text}
 use Rattle.thread_runs.specs.declared.TheConstants.{THREADS_MOST}
 use Rattle.sam_cmd.specs.declared.running.Wanted.TheVariants.{Result}
-use Rattle.sam_cmd.specs.Commands.{running_part, threads_part}
+use Rattle.sam_cmd.specs.Commands.{running_part, threads_part, sizing_part}
 
 -- With ample room on each channel `step` answers the tensor that the program denotes.
 abbrev pub StepCompletes : Type 0
@@ -30,3 +35,11 @@ RunCompletes =
     (told : Option Told) (program : List ℕ) (p : Program) (entries : List Entries) →
     program_part program told (Ok p) → length (low p).blocks ≤ THREADS_MOST →
     each_part tensor_part p.tensors told (Ok entries) → threads_part program told (Ok (statement_text p entries))
+
+-- `size` answers the least capacity where the largest one suffices.
+abbrev pub SizeCompletes : Type 0
+SizeCompletes =
+    (told : Option Told) (program : List ℕ) (p : Program) (entries : List Entries) →
+    program_part program told (Ok p) → each_part tensor_part p.tensors told (Ok entries) →
+    Suffices (net_of (storages_of p entries) (low p)) CAPACITY_MOST →
+    (capacity : ℕ) × (below : List Waiting) × sizing_part program told (Ok (size_text capacity below))

@@ -10,6 +10,7 @@ use crate::asked::asked_command;
 use crate::check::check;
 use crate::lower::lower;
 use crate::running::{Wanted, running};
+use crate::size::size;
 use crate::streams::streams;
 use crate::workload::large;
 use sam_base::{Fault, Name};
@@ -33,6 +34,7 @@ fn text<F: Files>(alloc: Global, files: &mut F, command: &Command) -> Result<Nam
             running(alloc, files, Wanted::Moment, program, options)
         }
         Command::Run { .. } => Err(Fault::Usage),
+        Command::Size { program } => size(alloc, files, program),
         Command::Large { number } => large(alloc, *number),
     }
 }

@@ -2,7 +2,7 @@
 //!
 //! A function here has no body but its contract, which speaks of the same parts as that of `sam`.
 
-ghost use Rattle.sam_cmd.specs.Laws.{StepCompletes, RunCompletes};
+ghost use Rattle.sam_cmd.specs.Laws.{StepCompletes, RunCompletes, SizeCompletes};
 
 /// Where the files that `step` reads are there and accepted, its options name channels that are there, and each given capacity
 /// is at least as large as its channel's stream is long, the answer that is due is the tensor that the program denotes.
@@ -14,4 +14,10 @@ pub fn step_completes()
 /// tensor that the program denotes. That says nothing of whether the run ends.
 pub fn run_completes()
     ensures { RunCompletes }
+{}
+
+/// Where the files that `size` reads are there and accepted, and the largest capacity suffices, the answer that is due is the
+/// least capacity.
+pub fn size_completes()
+    ensures { SizeCompletes }
 {}

@@ -16,6 +16,7 @@ mod laws;
 mod lower;
 mod report;
 mod running;
+mod size;
 mod streams;
 mod threads;
 mod workload;
@@ -23,7 +24,7 @@ mod workload;
 use answer::answer;
 use asked::asked_command;
 use block_threads::Gate;
-pub use laws::{run_completes, step_completes};
+pub use laws::{run_completes, size_completes, step_completes};
 use report::give;
 use sam_io::{Files, Sink};
 use std::alloc::Global;
@@ -46,6 +47,9 @@ use words::Command;
 ///   ends.
 /// - `run FILE` writes the same tensor as `step`, computed with a thread for every block. Its option is `--capacity n`, how many
 ///   messages each channel may hold. A graph of more than 256 blocks is refused.
+/// - `size FILE` reads what `streams` reads, and writes the least capacity under which a run of the graph finishes, given to every
+///   channel alike, and for each block that waits with one less a line that says on which channel. Where the largest capacity is
+///   too small, it answers the blocks that wait under it.
 /// - `large N` makes the workload of that number, runs its graph, and writes how many entries the result has, the sum of their
 ///   values and the number of events.
 ///

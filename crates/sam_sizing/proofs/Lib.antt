@@ -1,3 +1,4 @@
 pub mod OwnMade
 pub mod Tried
+pub mod OneLeast
 mod Worked

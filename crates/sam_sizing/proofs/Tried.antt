@@ -32,7 +32,7 @@ module _ (net : Net) (rooms : Rooms) (n : ℕ) (s : State) (wired : Wired net)
   stuck_alike = same_stuck net rooms (all_channels n) wired alike s stuck
 
   -- it finished, so the capacity suffices
-  finished_suffices : Finished net s → Suffices net n
+  pub finished_suffices : Finished net s → Suffices net n
   finished_suffices finished = λ t r k.
       subst (Finished net) (one-end net (all_channels n) s t wired reached_alike stuck_alike r k) finished
 

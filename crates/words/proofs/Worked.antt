@@ -5,7 +5,7 @@ use Rattle.clap.proofs.OnLiterals.{clap_on_literals}
 use Rattle.words.specs.Asked.{asked_of}
 use Rattle.words.specs.declared.asking.Options.{Options}
 use Rattle.words.specs.declared.asking.Command.{Command}
-use Rattle.words.specs.declared.asking.Command.TheVariants.{Check, Lower, Streams, Step, Moment, Run, Large}
+use Rattle.words.specs.declared.asking.Command.TheVariants.{Check, Lower, Streams, Step, Moment, Run, Size, Large}
 
 abbrev step_p : List (List ℕ) → List (List ℕ)
 step_p more = codes "step" ∷ codes "p.sam" ∷ more
@@ -63,6 +63,14 @@ unknown_command = refl
 runs : run_p [] ≡ Some (Run (codes "p.sam") None)
 unfolding clap_on_literals
 runs = refl
+
+sizes : asked_of (codes "size" ∷ codes "p.sam" ∷ []) ≡ Some (Size (codes "p.sam"))
+unfolding clap_on_literals
+sizes = refl
+
+size_takes_no_capacity : asked_of (codes "size" ∷ codes "p.sam" ∷ codes "--capacity=2" ∷ []) ≡ None
+unfolding clap_on_literals
+size_takes_no_capacity = refl
 
 help_is_none : asked_of (step_p (codes "--help" ∷ [])) ≡ None
 unfolding clap_on_literals

@@ -8,7 +8,7 @@ use Rattle.words.specs.declared.TheConstants.{CHANNEL_MOST}
 use Rattle.words.specs.Line.{Given, given_of}
 use Rattle.words.specs.declared.asking.Options.{Options}
 use Rattle.words.specs.declared.asking.Command.{Command}
-use Rattle.words.specs.declared.asking.Command.TheVariants.{Check, Lower, Streams, Step, Moment, Run, Large}
+use Rattle.words.specs.declared.asking.Command.TheVariants.{Check, Lower, Streams, Step, Moment, Run, Size, Large}
 use Rattle.words.specs.declared.asking.Refusal.{Refusal}
 use Rattle.words.specs.declared.asking.Refusal.TheVariants.{Usage, OutOfMemory}
 
@@ -91,6 +91,7 @@ command_of g =
     else if bytes_eq g.command (codes "step") then option_map (Step g.subject) (options_of g)
     else if bytes_eq g.command (codes "moment") then option_map (Moment g.subject) (options_of g)
     else if bytes_eq g.command (codes "run") then option_map (Run g.subject) (capacity_alone g)
+    else if bytes_eq g.command (codes "size") then without_options g (Some (Size g.subject))
     else if bytes_eq g.command (codes "large") then without_options g (option_map Large (bounded_number 1 LARGE_MOST g.subject))
     else None
 

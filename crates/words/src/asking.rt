@@ -52,6 +52,10 @@ pub enum Command {
         program: Name,
         capacity: Option<u32>,
     },
+    /// The least capacity under which a run of the program's graph finishes.
+    Size {
+        program: Name,
+    },
     /// The generated workload of this number, from 1 to `LARGE_MOST`.
     Large {
         number: u32,
@@ -223,6 +227,9 @@ fn read_command(alloc: Global, words: Words) -> Result<Command, Refusal>
         "run" => Ok(Command::Run {
             program: name(alloc, words.subject)?,
             capacity: capacity_alone(words)?,
+        }),
+        "size" => Ok(Command::Size {
+            program: program_alone(alloc, words)?,
         }),
         "large" => Ok(Command::Large {
             number: number_alone(words)?,
