@@ -1,1 +1,1 @@
--- No lemma is needed: the tests' functions are proved by the tactics and their invariants.
+pub mod Scanning

@@ -5,3 +5,5 @@
 
 #[cfg(test)]
 mod packets;
+#[cfg(test)]
+mod works;

@@ -27,7 +27,7 @@ fn put_one<W: Streams, R: Wait>(rt: &R, outs: &mut [Tx<W>], t: Token)
 }
 
 /// Puts a whole stream on its wire.
-fn put_all<W: Streams, R: Wait>(rt: &R, outs: &mut [Tx<W>], tokens: &[Token])
+pub(crate) fn put_all<W: Streams, R: Wait>(rt: &R, outs: &mut [Tx<W>], tokens: &[Token])
     requires fresh { outs.old ≡ fresh_end 0 ∷ [] }
     requires stream { wire_stream W.streams 0 ≡ tokens.now }
 {
