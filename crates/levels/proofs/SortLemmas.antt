@@ -1,11 +1,12 @@
 -- Rows in order, and lists with the same entries.
-use Rattle.std.proofs.Common.{◌≡◌, ℕ, zero, suc, ◌+◌, ◌%◌, ◌^◌, ◌<◌, Bool, true, false, cond, ◌&&◌, ◌||◌, List, [], ◌∷◌, ◌++◌, length, take, get_or, eqb, ltb, refl, ap, sym, subst, ◌∙◌, arith, Ordering}
+use Rattle.std.proofs.Common.{◌≡◌, ℕ, zero, suc, ◌+◌, ◌*◌, ◌%◌, ◌^◌, ◌<◌, ◌⊎◌, inl, inr, Bool, true, false, cond, ◌&&◌, ◌||◌, List, [], ◌∷◌, ◌++◌, length, take, get_or, eqb, ltb, refl, ap, sym, subst, ◌∙◌, arith, Ordering}
 use Rattle.std.specs.declared.cmp.Ordering.TheVariants.{Less, Equal, Greater}
 use Rattle.std.specs.Ordering.{is_lt, nat_cmp, ordering_then}
 use Rattle.std.specs.Cmp.Lexicographic.{slice_cmp, lists_total}
 use Rattle.std.specs.Cmp.{nat_cmp_total, nat_cmp_is}
 use Rattle.std.specs.List.Sorted.{IsPermutation, IsSortedByKey}
 use mathlib.Core.List.{map}
+use Rattle.std.proofs.lemmas.Bool.{cases_order}
 use Rattle.std.proofs.lemmas.Bool.Decides.{nat_tests}
 use Rattle.std.proofs.lemmas.List.{map_push, take_more}
 use Rattle.std.proofs.lemmas.List.Sorted.{IsPermutation-append_left, ranks_by, sorted_far, All-permutation, list_any-IsPermutation, sum_by-IsPermutation}
@@ -16,7 +17,7 @@ use Rattle.levels.specs.declared.rows.Row.{Row}
 use Rattle.sam_base.specs.Each.{Each}
 use Rattle.sam_model.proofs.Lists.{Each-mapped, Each-weaker, filter-ext}
 use Rattle.levels.specs.Sorted.{Sorted}
-use Rattle.levels.specs.Rows.{row_entry}
+use Rattle.levels.specs.Rows.{outer, row_entry}
 use Rattle.levels.proofs.Growth.{Each-get}
 use Rattle.levels.proofs.EntryLemmas.{Each-from-places}
 
@@ -71,6 +72,37 @@ sorted-entries n rows up =
     (λ x y h. not-smaller n y.coordinates x.coordinates (sym (cmp-smaller y.coordinates x.coordinates) ∙ h)) rows
     (Sorted-from-places (λ (x y : Row). is_lt (slice_cmp nat_cmp y.coordinates x.coordinates) ≡ false) record { coordinates = []; value = 0 } rows
     (λ i j l m. sorted_far (λ (x y : Row). is_lt (slice_cmp nat_cmp x.coordinates y.coordinates)) (ranks_by (lists_total nat_cmp_total) (λ (row : Row). row.coordinates)) rows up i j record { coordinates = []; value = 0 } (omega arith) m))
+
+-- ---- two coordinates as one number
+
+-- numbers that are compared as one are compared one after the other
+as-one : (a b c d : ℕ) (o : Ordering) → b < 2 ^ 32 → d < 2 ^ 32 → (a * 2 ^ 32 + b ≡ c * 2 ^ 32 + d → ⊥)
+    → nat_cmp (a * 2 ^ 32 + b) (c * 2 ^ 32 + d) ≡ ordering_then (nat_cmp a c) (ordering_then (nat_cmp b d) o)
+as-one a b c d o small small' apart = by_case (cases_order a c) (cases_order b d)
+  where
+    decided : (p q r s : Ordering) → p ≡ s → q ≡ s → ordering_then s r ≡ s → p ≡ ordering_then q r
+    decided p q r s e f g = e ∙ sym g ∙ ap (λ k. ordering_then k r) (sym f)
+
+    level : (p q r : Ordering) → q ≡ Equal → p ≡ r → p ≡ ordering_then q r
+    level p q r e f = f ∙ ap (λ k. ordering_then k r) (sym e)
+
+    by_case : (a ≡ c) ⊎ ((a < c) ⊎ (c < a)) → (b ≡ d) ⊎ ((b < d) ⊎ (d < b))
+        → nat_cmp (a * 2 ^ 32 + b) (c * 2 ^ 32 + d) ≡ ordering_then (nat_cmp a c) (ordering_then (nat_cmp b d) o)
+    by_case (inl e) (inl f) = absurd (apart (omega arith))
+    by_case (inl e) (inr (inl f)) =
+        level _ _ _ (sym (nat_cmp_is a c Equal e)) (decided _ _ o Less (sym (nat_cmp_is (a * 2 ^ 32 + b) (c * 2 ^ 32 + d) Less (omega arith))) (sym (nat_cmp_is b d Less f)) refl)
+    by_case (inl e) (inr (inr f)) =
+        level _ _ _ (sym (nat_cmp_is a c Equal e)) (decided _ _ o Greater (sym (nat_cmp_is (a * 2 ^ 32 + b) (c * 2 ^ 32 + d) Greater (omega arith))) (sym (nat_cmp_is b d Greater f)) refl)
+    by_case (inr (inl e)) f = decided _ _ _ Less (sym (nat_cmp_is (a * 2 ^ 32 + b) (c * 2 ^ 32 + d) Less (omega arith))) (sym (nat_cmp_is a c Less e)) refl
+    by_case (inr (inr e)) f = decided _ _ _ Greater (sym (nat_cmp_is (a * 2 ^ 32 + b) (c * 2 ^ 32 + d) Greater (omega arith))) (sym (nat_cmp_is a c Greater e)) refl
+
+pub outer-cmp : (x y : List ℕ) → 1 < length x → 1 < length y → get_or x 1 0 < 2 ^ 32 → get_or y 1 0 < 2 ^ 32 → (outer x ≡ outer y → ⊥)
+    → nat_cmp (outer x) (outer y) ≡ slice_cmp nat_cmp x y
+outer-cmp [] y h k small small' apart = absurd (omega arith)
+outer-cmp (a ∷ []) y h k small small' apart = absurd (omega arith)
+outer-cmp (a ∷ b ∷ x) [] h k small small' apart = absurd (omega arith)
+outer-cmp (a ∷ b ∷ x) (c ∷ []) h k small small' apart = absurd (omega arith)
+outer-cmp (a ∷ b ∷ x) (c ∷ d ∷ y) h k small small' apart = as-one a b c d (slice_cmp nat_cmp x y) small small' apart
 
 -- ---- the same entries in another order
 

@@ -4,6 +4,7 @@ use Rattle.sam_model.specs.declared.tensors.Format.TheVariants.{Dense, Compresse
 use Rattle.sam_model.specs.Tensors.{Stored, stored_prefixes}
 use Rattle.sam_model.specs.Children.{children_of, values_of, ranked}
 use Rattle.levels.specs.Keys.{packed}
+use Rattle.levels.specs.Rows.{outer}
 
 -- a 2 x 2 tensor with a dense level after a compressed one
 trailing : Stored
@@ -60,3 +61,7 @@ packed-row = refl
 -- a row with no level is one number
 packed-none : packed 0 [] [] ≡ 0
 packed-none = refl
+
+-- two coordinates as one number
+outer-row : outer (1 ∷ 5 ∷ 7 ∷ []) ≡ 4294967301
+outer-row = refl

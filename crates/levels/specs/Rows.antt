@@ -1,11 +1,15 @@
 -- Rows: the entries of a tensor in storage order.
-use Rattle.std.specs.Prelude.{ℕ, ◌%◌, ◌^◌, cond, List, length, take, slice_index, eqb}
+use Rattle.std.specs.Prelude.{ℕ, ◌+◌, ◌*◌, ◌%◌, ◌^◌, cond, List, length, take, slice_index, eqb}
 use Rattle.std.specs.List.{zip}
 use mathlib.Core.List.{map}
 use Rattle.sam_model.specs.declared.tensors.Tensor.{Tensor}
 use Rattle.sam_model.specs.Lists.{items_at, total}
 use Rattle.sam_model.specs.Tensors.{Stored}
 use Rattle.levels.specs.declared.rows.Row.{Row}
+
+-- the two outermost coordinates as one number
+abbrev pub outer : List ℕ → ℕ
+outer coordinates = slice_index coordinates 0 * 2 ^ 32 + slice_index coordinates 1
 
 -- a row as an entry of a tensor with n levels
 abbrev pub row_entry : ℕ → Row → List ℕ × ℕ

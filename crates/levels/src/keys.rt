@@ -2,7 +2,6 @@
 
 ghost use Rattle.std.specs.Prelude.{◌≡◌, ◌<◌, length, IfOk, IfSome};
 ghost use mathlib.Core.List.{map};
-ghost use Rattle.std.specs.List.Sorted.{IsPermutation};
 ghost use Rattle.std.specs.Ordering.{nat_cmp};
 ghost use Rattle.sam_base.specs.Each.{Each};
 ghost use Rattle.levels.specs.Matches.{IsStorable, Matches};
@@ -10,9 +9,6 @@ ghost use Rattle.levels.specs.Keys.{IsKey, AreInOrder, entry_of};
 
 use sam_model::{Entries, Tensor};
 use std::alloc::{AllocError, Global};
-
-/// Over how many keys a key may go back to its place.
-const NEAR: usize = 16;
 
 /// The coordinates of an entry by level as one number, with a digit for each level to the base of its size; and the place of the
 /// entry among all.
@@ -42,22 +38,7 @@ fn key_at(entries: &Entries, t: &Tensor, n: usize) -> Option<Key>
     Some(Key { number, entry: n })
 }
 
-/// The last key goes back to its place among those before it, if that is near. The answer says whether it was.
-fn settle(keys: &mut [Key]) -> bool
-    ensures { IsPermutation keys.old keys.new }
-{
-    let mut place = keys.len().saturating_sub(1);
-    let least = place.saturating_sub(NEAR);
-    while place > least && keys[place].number < keys[place - 1].number {
-        keys.swap(place - 1, place);
-        place -= 1;
-    }
-    place > least || place == 0
-}
-
 /// The keys of all entries, ascending, where they fit. Repeated entries stay in their order.
-///
-/// While entries come nearly in order, each key goes to its place at once, and the sort then only finds them sorted.
 pub fn sorted_keys(
     alloc: Global,
     entries: &Entries,
@@ -69,15 +50,11 @@ pub fn sorted_keys(
     ensures order { IfOk result (λ found. IfSome found (λ keys. AreInOrder t.now entries.now (map (entry_of t.now entries.now) keys.items))) }
 {
     let mut keys = Vec::with_capacity(alloc, entries.values.len())?;
-    let mut near = true;
     for n in 0..entries.values.len() {
         let Some(key) = key_at(entries, t, n) else {
             return Ok(None);
         };
         keys.push(key)?;
-        if near {
-            near = settle(keys.as_mut_slice());
-        }
     }
     keys.sort_by(
         |x, y|

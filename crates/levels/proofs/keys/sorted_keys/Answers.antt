@@ -1,12 +1,12 @@
 -- The keys are those of the entries, and only move.
-use Rattle.std.proofs.Common.{◌≡◌, ◌+◌, ◌<◌, take, [], ◌∷◌, length, sym, arith, ◌∙◌, ap, subst, List, ℕ, rules}
+use Rattle.std.proofs.Common.{◌≡◌, ◌+◌, ◌<◌, take, [], ◌∷◌, length, sym, arith, ap, subst, List, ℕ, rules}
 use mathlib.Core.List.{map}
 use Rattle.std.specs.Prelude.{slice_index_or}
 use Rattle.std.specs.Ordering.{is_lt, nat_cmp}
 use Rattle.std.specs.Cmp.{nat_cmp_total}
 use Rattle.std.specs.List.Sorted.{IsPermutation}
-use Rattle.std.proofs.lemmas.List.{take_all, with_items_is}
-use Rattle.std.proofs.lemmas.List.Sorted.{IsPermutation-map, IsPermutation-trans, length_permutation, answers_always, ranks_by}
+use Rattle.std.proofs.lemmas.List.{take_all}
+use Rattle.std.proofs.lemmas.List.Sorted.{IsPermutation-map, IsPermutation-trans, answers_always, ranks_by}
 use Rattle.sam_base.specs.Each.{Each}
 use Rattle.sam_model.specs.Tensors.{stored_as}
 use Rattle.sam_model.proofs.Lists.{Each-append}
@@ -16,7 +16,6 @@ use Rattle.levels.proofs.EntryLemmas.{length-stored}
 use Rattle.levels.proofs.KeyLemmas.{no-key, keys-ascend}
 use Rattle.levels.proofs.SortLemmas.{one-more, Each-permutation}
 use Rattle.levels.proofs.keys.sorted_keys.Goals as goal
-use Rattle.levels.proofs.keys.sorted_keys.Goals.{then-near, else-near}
 
 pub loop-n-preserved : goal.loop-n-preserved
 loop-n-preserved c =
@@ -30,25 +29,7 @@ loop-n-preserved c =
     let keys : Each (IsKey t e) c.push.new.self.items
     = subst (λ (ks : List Key). Each (IsKey t e) ks) (sym c.in_ok-push.ensures.items)
     (Each-append (IsKey t e) c.loop-n.keys.items (c.in-Some.key ∷ []) c.loop-n.invariant.keys (c.in-Some.ensures.key, tt)) in
-    elim c.if-near.branch [
-      | then-near w ↦
-          let moved : IsPermutation c.push.new.self.items c.if-near.keys.items
-          =
-          let written = with_items_is c.push.new.self w.settle-near.new.keys (length_permutation w.as_mut_slice.result.now w.settle-near.new.keys w.settle-near.ensures ∙ w.as_mut_slice.ensures.len) in
-          subst (λ (before : List Key). IsPermutation before c.if-near.keys.items) w.as_mut_slice.ensures.value
-          (subst (λ (after : List Key). IsPermutation w.as_mut_slice.result.now after) (sym (ap (λ v. v.items) w.keys-is ∙ written)) w.settle-near.ensures) in
-          record {
-            same = IsPermutation-trans (take (c.loop-n.n + 1) (stored_as t e).entries) (map (entry_of t e) c.push.new.self.items) (map (entry_of t e) c.if-near.keys.items)
-                same (IsPermutation-map (entry_of t e) c.push.new.self.items c.if-near.keys.items moved);
-            keys = Each-permutation (IsKey t e) no-key c.push.new.self.items c.if-near.keys.items moved keys;
-          }
-      | else-near w ↦
-          let still : c.push.new.self.items ≡ c.if-near.keys.items = ap (λ v. v.items) (sym w.keys-is) in
-          record {
-            same = subst (λ (ks : List Key). IsPermutation (take (c.loop-n.n + 1) (stored_as t e).entries) (map (entry_of t e) ks)) still same;
-            keys = subst (λ (ks : List Key). Each (IsKey t e) ks) still keys;
-          }
-    ]
+    record { same = same; keys = keys }
 
 -- the keys after the sort
 sorted : goal.returns-clause-keys
