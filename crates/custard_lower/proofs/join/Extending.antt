@@ -28,8 +28,8 @@ module _ (trees : TermTrees) (plan : Plan) where
       extends-both made made' _ (extends-more made (intersect trees plan d met f w ∷ []))
       (met_extends d made' (met_with trees plan met f (outputs_of made)) (suc (suc w)) fs)
 
-  level_extends : (d : ℕ) (n : Nest) → Extends n.made (level trees plan d n).made
-  level_extends d n =
+  pub level-extends : (d : ℕ) (n : Nest) → Extends n.made (level trees plan d n).made
+  level-extends d n =
       let w = outputs_of n.made in
       let first = first_met trees plan (asked plan d) w in
       let made1 = scanned trees plan d n in
@@ -39,10 +39,10 @@ module _ (trees : TermTrees) (plan : Plan) where
       (met_extends d made1 first (suc (suc w)) (drop 1 (asked plan d))))
       (extends-more made2 _)
 
-  nest_extends : (d : ℕ) (made : List Made) → Extends made (nest trees plan d made).made
-  nest_extends zero made = extends-same made
-  nest_extends (suc d) made =
-      extends-both made (nest trees plan d made).made _ (nest_extends d made) (level_extends d (nest trees plan d made))
+  pub nest-extends : (d : ℕ) (made : List Made) → Extends made (nest trees plan d made).made
+  nest-extends zero made = extends-same made
+  nest-extends (suc d) made =
+      extends-both made (nest trees plan d made).made _ (nest-extends d made) (level-extends d (nest trees plan d made))
 
   -- ---- values
 
@@ -59,8 +59,8 @@ module _ (trees : TermTrees) (plan : Plan) where
       extends-both v.made made _ (extends-more v.made (constant trees plan c v.values ∷ []))
       (extends-more made (scaling trees plan v.values (outputs_of v.made) ∷ []))
 
-  valued_extends : (made : List Made) (references : List ℕ) → Extends made (valued trees plan made references).made
-  valued_extends made references =
+  pub valued-extends : (made : List Made) (references : List ℕ) → Extends made (valued trees plan made references).made
+  valued-extends made references =
       let v : Valued = record { made = arrays trees plan made references; values = outputs_of made } in
       let m = multiplied trees plan v (suc (outputs_of made)) (range_with_len 1 (length plan.accesses - 1)) in
       extends-both made m.made _
@@ -75,11 +75,11 @@ module _ (trees : TermTrees) (plan : Plan) where
   reduce_extends gone (suc zero) l = extends-more l.made (sum_vector trees gone l ∷ [])
   reduce_extends gone (suc (suc k)) l = extends-more l.made (sum_matrix trees gone l ∷ [])
 
-  reduced_extends : (marks : List Bool) (l : Levels) → Extends l.made (reduced trees marks l).made
-  reduced_extends [] l = extends-same l.made
-  reduced_extends (true ∷ marks) l = reduced_extends marks l
-  reduced_extends (false ∷ marks) l =
-      extends-both l.made (reduced trees marks l).made _ (reduced_extends marks l)
+  pub reduced-extends : (marks : List Bool) (l : Levels) → Extends l.made (reduced trees marks l).made
+  reduced-extends [] l = extends-same l.made
+  reduced-extends (true ∷ marks) l = reduced-extends marks l
+  reduced-extends (false ∷ marks) l =
+      extends-both l.made (reduced trees marks l).made _ (reduced-extends marks l)
       (reduce_extends (free_marks marks) (left_marks marks) (reduced trees marks l))
 
 module _ (trees : PrunedTrees) where
@@ -89,9 +89,9 @@ module _ (trees : PrunedTrees) where
       extends-both l.made (without_fibers trees (suc f) l).made _ (extends-more l.made (drop_fiber trees (suc f) l ∷ []))
       (emptied_extends f (without_fibers trees (suc f) l))
 
-  pruned_extends : (n : ℕ) (l : Levels) → Extends l.made (pruned_below trees n l).made
-  pruned_extends zero l = extends-same l.made
-  pruned_extends (suc f) l =
+  pub pruned-extends : (n : ℕ) (l : Levels) → Extends l.made (pruned_below trees n l).made
+  pruned-extends zero l = extends-same l.made
+  pruned-extends (suc f) l =
       extends-both l.made (without_values trees l).made _ (extends-more l.made (drop_value trees l ∷ []))
       (emptied_extends f (without_values trees l))
 
@@ -105,6 +105,6 @@ module _ (term : ℕ) (plan : Plan) where
       let r = reduced (Own term) plan.on_left l in
       extends-both made r.made _
       (extends-both made v.made r.made
-      (extends-both made n.made v.made (nest_extends (Own term) plan (length plan.on_left) made) (valued_extends (Own term) plan n.made n.references))
-      (reduced_extends (Own term) plan plan.on_left l))
-      (pruned_extends (OfTerm term (free_marks plan.on_left)) (length r.coordinates) r)
+      (extends-both made n.made v.made (nest-extends (Own term) plan (length plan.on_left) made) (valued-extends (Own term) plan n.made n.references))
+      (reduced-extends (Own term) plan plan.on_left l))
+      (pruned-extends (OfTerm term (free_marks plan.on_left)) (length r.coordinates) r)

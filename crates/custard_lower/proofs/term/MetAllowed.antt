@@ -12,10 +12,12 @@ use Rattle.sam_model.specs.declared.program.Program.{Program}
 use Rattle.stream_model.specs.declared.labels.Attr.TheVariants.{Coordinate, Rank}
 use Rattle.stream_model.specs.declared.labels.Label.{Label}
 use Rattle.graph.specs.declared.graphs.Kind.TheVariants as kind
-use Rattle.label_rules.specs.Labels.{no_label, PortsAllow, just_these}
+use Rattle.stream_model.specs.declared.labels.Tree.{Tree}
+use Rattle.stream_model.specs.declared.labels.Tree.TheVariants.{Product}
+use Rattle.label_rules.specs.Labels.{no_label, tree_label, PortsAllow, just_these}
 use Rattle.label_rules.specs.Named.{attr_numbers, tree_mask}
 use Rattle.label_rules.specs.Masks.{mask_with, factors_mask}
-use Rattle.label_rules.specs.TermLabels.{product_label, met_labels}
+use Rattle.label_rules.specs.TermLabels.{met_labels}
 use Rattle.label_rules.specs.Rules.{Allowed}
 
 with_more : (m : ℕ) (fs gs : List ℕ) → mask_with m (fs ++ gs) ≡ mask_with (mask_with m fs) gs
@@ -35,58 +37,76 @@ dropped : (ls ks : List Label) → drop (length ls) (ls ++ ks) ≡ ks
 dropped [] ks = refl
 dropped (l ∷ ls) ks = dropped ls ks
 
-module _ (p : Program) (t : ℕ) (inside : t < length p.terms) (d : ℕ) (fs : List ℕ) (f : ℕ) where
+-- whichever trees have the masks
+module _ (tree : ℕ → Tree) (mask_of : Tree → ℕ) (back : (m : ℕ) → mask_of (tree m) ≡ m) (fs : List ℕ) (f : ℕ) where
+  -- the coordinates and the references of some factors
+  abbrev pub side : ℕ → List ℕ → List Label
+  side m ks = tree_label (tree m) Coordinate ∷ map (λ k. tree_label (tree m) (Rank k)) ks
+
   abbrev ranked : List Label
-  ranked = map (λ k. product_label p t (suc d) (factors_mask fs) (Rank k)) fs
+  ranked = map (λ k. tree_label (tree (factors_mask fs)) (Rank k)) fs
 
   abbrev right : List Label
-  right = met_labels p t (suc d) (factors_mask (f ∷ [])) (f ∷ [])
-
-  abbrev ins : List Label
-  ins = met_labels p t (suc d) (factors_mask fs) fs ++ right
-
-  abbrev outs : List Label
-  outs = met_labels p t (suc d) (factors_mask (fs ++ f ∷ [])) (fs ++ f ∷ [])
+  right = side (factors_mask (f ∷ [])) (f ∷ [])
 
   many : length ranked ≡ length fs
-  many = length-map fs (λ k. product_label p t (suc d) (factors_mask fs) (Rank k))
+  many = length-map fs (λ k. tree_label (tree (factors_mask fs)) (Rank k))
 
-  these : attr_numbers (take (length fs) (ranked ++ right)) ≡ fs
-  these =
+  -- what a rule reads off their labels: the factors of both sides, and the mask on the right
+  abbrev pub these_read : List ℕ
+  these_read = attr_numbers (take (length fs) (ranked ++ right))
+
+  abbrev pub those_read : List ℕ
+  those_read = attr_numbers (drop 1 (drop (length fs) (ranked ++ right)))
+
+  abbrev pub mask_read : ℕ
+  mask_read = mask_of (get_or (ranked ++ right) (length fs) no_label).tree
+
+  pub these-are : these_read ≡ fs
+  these-are =
       ap (λ (n : ℕ). attr_numbers (take n (ranked ++ right))) (sym many)
       ∙ ap attr_numbers (take-append_seam ranked right)
-      ∙ map-map _ (λ k. product_label p t (suc d) (factors_mask fs) (Rank k)) fs
+      ∙ map-map _ (λ k. tree_label (tree (factors_mask fs)) (Rank k)) fs
       ∙ map-same fs
 
-  those : attr_numbers (drop 1 (drop (length fs) (ranked ++ right))) ≡ f ∷ []
-  those = ap (λ (n : ℕ). attr_numbers (drop 1 (drop n (ranked ++ right)))) (sym many) ∙ ap (λ (ls : List Label). attr_numbers (drop 1 ls)) (dropped ranked right)
+  pub those-are : those_read ≡ f ∷ []
+  those-are = ap (λ (n : ℕ). attr_numbers (drop 1 (drop n (ranked ++ right)))) (sym many) ∙ ap (λ (ls : List Label). attr_numbers (drop 1 ls)) (dropped ranked right)
 
-  mask : tree_mask (get_or (ranked ++ right) (length fs) no_label).tree ≡ factors_mask (f ∷ [])
-  mask =
-      ap (λ (n : ℕ). tree_mask (get_or (ranked ++ right) n no_label).tree) (sym many)
-      ∙ ap (λ (l : Label). tree_mask l.tree) (get_or-append_seam ranked (product_label p t (suc d) (factors_mask (f ∷ [])) Coordinate)
-      (product_label p t (suc d) (factors_mask (f ∷ [])) (Rank f) ∷ []) no_label)
+  mask_is : mask_read ≡ factors_mask (f ∷ [])
+  mask_is =
+      ap (λ (n : ℕ). mask_of (get_or (ranked ++ right) n no_label).tree) (sym many)
+      ∙ ap (λ (l : Label). mask_of l.tree) (get_or-append_seam ranked (tree_label (tree (factors_mask (f ∷ []))) Coordinate)
+      (tree_label (tree (factors_mask (f ∷ []))) (Rank f) ∷ []) no_label)
+      ∙ back (factors_mask (f ∷ []))
 
-  -- what is met with one factor more
-  pub met-allowed : Allowed p (kind.Intersect (length fs) 1) ins outs
-  met-allowed = record {
-    holds =
-        let a : ltb t (length p.terms) ≡ true = grind (arith, nat_tests, inside) in
-        let b : eqb (length fs) (length fs) ≡ true = grind (arith, nat_tests) in
-        rw (a, these, those, b) refl;
-    ins_are =
-        subst (λ (xs : List Label). PortsAllow (just_these xs) ins)
-        (sym
-        (ap (λ (ks : List ℕ). met_labels p t (suc d) (factors_mask fs) ks
-        ++ met_labels p t (suc d) (tree_mask (get_or (ranked ++ right) (length fs) no_label).tree) (attr_numbers (drop 1 (drop (length fs) (ranked ++ right))))) these
-        ∙ ap (λ (n : ℕ). met_labels p t (suc d) (factors_mask fs) fs ++ met_labels p t (suc d) n (attr_numbers (drop 1 (drop (length fs) (ranked ++ right))))) mask
-        ∙ ap (λ (ks : List ℕ). met_labels p t (suc d) (factors_mask fs) fs ++ met_labels p t (suc d) (factors_mask (f ∷ [])) ks) those))
-        (just-these-self ins);
-    outs_are =
-        sym
-        (ap (λ (ks : List ℕ). met_labels p t (suc d) (bit_or (factors_mask fs) (tree_mask (get_or (ranked ++ right) (length fs) no_label).tree))
-        (ks ++ attr_numbers (drop 1 (drop (length fs) (ranked ++ right))))) these
-        ∙ ap (λ (n : ℕ). met_labels p t (suc d) (bit_or (factors_mask fs) n) (fs ++ attr_numbers (drop 1 (drop (length fs) (ranked ++ right))))) mask
-        ∙ ap (λ (ks : List ℕ). met_labels p t (suc d) (bit_or (factors_mask fs) (factors_mask (f ∷ []))) (fs ++ ks)) those
-        ∙ ap (λ (n : ℕ). met_labels p t (suc d) n (fs ++ f ∷ [])) (sym (both_masks fs f)));
-  }
+  pub ins-met : PortsAllow (just_these (side (factors_mask fs) these_read ++ side mask_read those_read)) (side (factors_mask fs) fs ++ right)
+  ins-met =
+      subst (λ (xs : List Label). PortsAllow (just_these xs) (side (factors_mask fs) fs ++ right))
+      (sym
+      (ap (λ (ks : List ℕ). side (factors_mask fs) ks ++ side mask_read those_read) these-are
+      ∙ ap (λ (n : ℕ). side (factors_mask fs) fs ++ side n those_read) mask_is
+      ∙ ap (λ (ks : List ℕ). side (factors_mask fs) fs ++ side (factors_mask (f ∷ [])) ks) those-are))
+      (just-these-self (side (factors_mask fs) fs ++ right))
+
+  pub outs-met : side (factors_mask (fs ++ f ∷ [])) (fs ++ f ∷ []) ≡ side (bit_or (factors_mask fs) mask_read) (these_read ++ those_read)
+  outs-met =
+      sym
+      (ap (λ (ks : List ℕ). side (bit_or (factors_mask fs) mask_read) (ks ++ those_read)) these-are
+      ∙ ap (λ (n : ℕ). side (bit_or (factors_mask fs) n) (fs ++ those_read)) mask_is
+      ∙ ap (λ (ks : List ℕ). side (bit_or (factors_mask fs) (factors_mask (f ∷ []))) (fs ++ ks)) those-are
+      ∙ ap (λ (n : ℕ). side n (fs ++ f ∷ [])) (sym (both_masks fs f)))
+
+-- what is met of a term with one factor more
+pub met-allowed : (p : Program) (t : ℕ) → t < length p.terms → (d : ℕ) (fs : List ℕ) (f : ℕ)
+    → Allowed p (kind.Intersect (length fs) 1)
+    (met_labels p t (suc d) (factors_mask fs) fs ++ met_labels p t (suc d) (factors_mask (f ∷ [])) (f ∷ []))
+    (met_labels p t (suc d) (factors_mask (fs ++ f ∷ [])) (fs ++ f ∷ []))
+met-allowed p t inside d fs f =
+    let tree : ℕ → Tree = λ m. Product t (suc d) m in
+    let a : ltb t (length p.terms) ≡ true = grind (arith, nat_tests, inside) in
+    let b : eqb (length fs) (length fs) ≡ true = grind (arith, nat_tests) in
+    record {
+      holds = rw (a, these-are tree tree_mask (λ m. refl) fs f, those-are tree tree_mask (λ m. refl) fs f, b) refl;
+      ins_are = ins-met tree tree_mask (λ m. refl) fs f;
+      outs_are = outs-met tree tree_mask (λ m. refl) fs f;
+    }

@@ -140,7 +140,7 @@ module _ (rules : Rules) (trees : TermTrees) (t : Plan) (coordinates : ℕ → �
           sound = sound-emit rules l.made b (y.0 ∷ v.0 ∷ []) x.sound (y.1, (v.1, tt)) (may.vector y.0 v.0 one y.2 v.2);
           root = root_on b;
           count = let a = length-append (take d l.coordinates) (w ∷ []) in omega (arith, a, taking, one);
-          coordinates_stand = λ k i. one_more b w (_, new.0, may.coordinate d (omega arith)) k (omega (arith, i, one));
+          coordinates_stand = λ k i. one_more b w (_, new.0, may.coordinate d (omega (arith, one)) (omega arith)) k (omega (arith, i, one));
           values_stand = (
             reduced_tree_label trees (suc g) (suc d) Value,
             subst (λ (u : ℕ). Stands (l.made ++ b ∷ []) u (reduced_tree_label trees (suc g) (suc d) Value)) next new.1.0,
@@ -187,10 +187,10 @@ module _ (rules : Rules) (trees : TermTrees) (t : Plan) (coordinates : ℕ → �
           root = root_on b;
           count = let a = length-append (take d l.coordinates) (w ∷ suc w ∷ []) in omega (arith, a, taking, two);
           coordinates_stand =
-              λ k i. two_more b w (suc w) (_, new.0, may.coordinate d (omega arith)) (
+              λ k i. two_more b w (suc w) (_, new.0, may.coordinate d (omega (arith, two)) (omega arith)) (
                 second,
                 subst (λ (u : ℕ). Stands (l.made ++ b ∷ []) u second) next new.1.0,
-                may.coordinate (suc d) (omega arith),
+                may.coordinate (suc d) (omega (arith, two)) (omega arith),
               ) k (omega (arith, i, two));
           values_stand = (
             third,

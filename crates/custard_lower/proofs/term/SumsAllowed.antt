@@ -30,15 +30,15 @@ free-append (true ∷ front) rest = free-append front rest
 free-append (false ∷ front) rest = let h = free-append front rest in omega (arith, h)
 
 -- the loop that is taken away next is found by how many are gone
-left_found : (before after : List Bool) → left_after (free_marks after) (before ++ false ∷ after) ≡ left_marks after
-left_found [] after =
+pub left-found : (before after : List Bool) → left_after (free_marks after) (before ++ false ∷ after) ≡ left_marks after
+left-found [] after =
     let e : eqb (free_marks after) (free_marks after) ≡ true = grind (arith, nat_tests) in
     ap (λ b. cond b (left_marks after) (left_after (free_marks after) after)) e
-left_found (b ∷ before) after =
+left-found (b ∷ before) after =
     let n = free-append before (false ∷ after) in
     let e : eqb (free_marks (before ++ false ∷ after)) (free_marks after) ≡ false = grind (arith, nat_tests, n) in
     ap (λ c. cond (not b && c) (left_marks (before ++ false ∷ after)) (left_after (free_marks after) (before ++ false ∷ after))) e
-    ∙ passed (not b) ∙ left_found before after
+    ∙ passed (not b) ∙ left-found before after
   where
     passed : (c : Bool) → cond (c && false) (left_marks (before ++ false ∷ after)) (left_after (free_marks after) (before ++ false ∷ after))
         ≡ left_after (free_marks after) (before ++ false ∷ after)
@@ -177,7 +177,7 @@ module _ (p : Program) (n : ℕ) (inside : n < length p.terms)
         let some : ltb 0 (suc g) ≡ true = grind (arith, nat_tests) in
         let back : suc g - 1 ≡ g = omega arith in
         let b : ltb g (free_loop_count p n) ≡ true = let m = more in grind (arith, nat_tests, m) in
-        let found : left_after g (plan_at p n).on_left ≡ left_marks after = ap (left_after g) e ∙ left_found before after in
+        let found : left_after g (plan_at p n).on_left ≡ left_marks after = ap (left_after g) e ∙ left-found before after in
         let c : eqb (left_after g (plan_at p n).on_left) after_it ≡ true = grind (arith, nat_tests, found, k) in
         ap (λ (i : ℕ). ltb n (length p.terms) && (ltb 0 (suc g) && (ltb i (free_loop_count p n) && eqb (left_after i (plan_at p n).on_left) after_it))) back
         ∙ ap (λ t. t && (ltb 0 (suc g) && (ltb g (free_loop_count p n) && eqb (left_after g (plan_at p n).on_left) after_it))) a
@@ -269,7 +269,7 @@ module _ (p : Program) (n : ℕ) (inside : n < length p.terms)
                 ∙ ap (λ (h : ℕ). reduced_label p n (suc h) 9 (levels - 2) Coordinate ∷ reduced_label p n (suc h) 9 (levels - 1) Coordinate
                 ∷ reduced_label p n (suc h) 9 (levels - 1) Value ∷ []) gone_back;
           });
-      coordinate = λ k deep.
+      coordinate = λ k some deep.
           left-one (reduced_label p n (suc g) 9 (suc k) Coordinate)
           (map (λ h. reduced_label p n h 9 (suc k) Coordinate) (filter (same_kept p n (suc k) (suc g)) (range_with_len 1 (suc g))))
           (cond (same_kept p n (suc k) (suc g) 0) (product_label p n (suc k) (full_mask p n (suc k - 1)) Coordinate ∷ []) [])

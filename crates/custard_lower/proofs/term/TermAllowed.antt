@@ -75,7 +75,7 @@ module _ (rules : Rules) (trees : TermTrees) (t : Plan) where
         ∷ reduced_tree_label trees (suc (free_marks after)) (suc (suc (length before))) Coordinate
         ∷ reduced_tree_label trees (suc (free_marks after)) (suc (suc (length before))) Value
         ∷ [])
-    pub coordinate : (d : ℕ) → length before ≤ d
+    pub coordinate : (d : ℕ) → 0 < left_marks after → length before ≤ d
         → IsOneOf (reduced_tree_label trees (suc (free_marks after)) (suc d) Coordinate) (coordinates (suc (free_marks after)) (suc d))
     pub value : (d : ℕ) → d ≡ length before + left_marks after
         → IsOneOf (reduced_tree_label trees (suc (free_marks after)) d Value) (values (suc (free_marks after)))

@@ -3,6 +3,7 @@ use Rattle.std.specs.Prelude.{◌≡◌, ◌<◌, ℕ, suc, ◌-◌, Bool, true,
 use Rattle.std.proofs.Common.{arith, sym, ap, subst, inl, inr}
 use Rattle.std.proofs.lemmas.Bool.Decides.{nat_tests}
 use Rattle.sam_model.specs.declared.program.Program.{Program}
+use Rattle.sam_model.proofs.Lists.{and-false}
 use Rattle.stream_model.specs.declared.labels.Attr.TheVariants.{Rank, FactorValue, Partial, Whole, Literal}
 use Rattle.stream_model.specs.declared.labels.Label.{Label}
 use Rattle.graph.specs.declared.graphs.Kind.TheVariants as kind
@@ -16,17 +17,18 @@ use Rattle.custard_lower.proofs.term.TermAllowed.{ValuesAllowed}
 use Rattle.custard_lower.proofs.term.PlainRules.{Plain, plain}
 
 -- one of two instances, by a test
-by_test : (b c : Bool) (i j : Instance) (ins outs : List Label) → b ≡ c → ((cond c i j).holds ≡ true) → PortsAllow (cond c i j).ins ins
+pub by-test : (b c : Bool) (i j : Instance) (ins outs : List Label) → b ≡ c → ((cond c i j).holds ≡ true) → PortsAllow (cond c i j).ins ins
     → outs ≡ (cond c i j).outs
     → ((cond b i j).holds ≡ true) × PortsAllow (cond b i j).ins ins × (outs ≡ (cond b i j).outs)
-by_test true true i j ins outs e h x o = (h, x, o)
-by_test false false i j ins outs e h x o = (h, x, o)
-by_test true false i j ins outs e h x o = absurd (cc)
-by_test false true i j ins outs e h x o = absurd (cc)
+by-test true true i j ins outs e h x o = (h, x, o)
+by-test false false i j ins outs e h x o = (h, x, o)
+by-test true false i j ins outs e h x o = absurd (cc)
+by-test false true i j ins outs e h x o = absurd (cc)
 
-and_false : (b : Bool) → (b && false) ≡ false
-and_false true = refl
-and_false false = refl
+-- the coefficient of a term, by whether it has a literal
+pub coefficient-by : (p : Program) (n : ℕ) (c : Option ℕ) → (plan_at p n).coefficient ≡ c
+    → plan_coefficient p n ≡ (elim c as (λ _. ℕ) [ None ↦ 1 | Some k ↦ k ])
+coefficient-by p n c e = ap (λ (o : Option ℕ). elim o as (λ _. ℕ) [ None ↦ 1 | Some k ↦ k ]) e
 
 module _ (p : Program) (n : ℕ) (inside : n < length p.terms) where
   -- what holds of both labels that a product may have
@@ -66,8 +68,8 @@ module _ (p : Program) (n : ℕ) (inside : n < length p.terms) where
       let b : leb (suc k) (factor_count p n) ≡ true = grind (arith, nat_tests, less) in
       let back : k ≡ suc k - 1 = omega arith in
       let q =
-      by_test (same_label (bottom_label p n (Partial (suc k))) (bottom_label p n Whole)) false whole_instance (product_instance (suc k)) ins outs
-      (and_false _) (rw (is_there, a, b) refl)
+      by-test (same_label (bottom_label p n (Partial (suc k))) (bottom_label p n Whole)) false whole_instance (product_instance (suc k)) ins outs
+      (and-false _) (rw (is_there, a, b) refl)
       (subst (λ (i : ℕ). IsOneOf l (partial_labels p n i)) back x, (inl (ap (λ (i : ℕ). bottom_label p n (FactorValue i)) back), tt)) refl in
       record { holds = q.0; ins_are = q.1; outs_are = q.2 }
 
@@ -77,17 +79,13 @@ module _ (p : Program) (n : ℕ) (inside : n < length p.terms) where
       let ins = l ∷ bottom_label p n (Literal c) ∷ [] in
       let outs = bottom_label p n Whole ∷ [] in
       let q =
-      by_test (same_label (bottom_label p n Whole) (bottom_label p n Whole)) true whole_instance (product_instance 0) ins outs
+      by-test (same_label (bottom_label p n Whole) (bottom_label p n Whole)) true whole_instance (product_instance 0) ins outs
       (same_to_itself (bottom_label p n Whole)) is_there
       (x, (inl (ap (λ (i : ℕ). bottom_label p n (Literal i)) (sym is)), tt)) refl in
       record { holds = q.0; ins_are = q.1; outs_are = q.2 }
     where
       same_to_itself : (l : Label) → same_label l l ≡ true
       same_to_itself l = rw (same_itself (tree_code l.tree), same_itself (attr_code l.attr)) refl
-
-  coefficient_is : (c : Option ℕ) → (plan_at p n).coefficient ≡ c
-      → plan_coefficient p n ≡ (elim c as (λ _. ℕ) [ None ↦ 1 | Some k ↦ k ])
-  coefficient_is c e = ap (λ (o : Option ℕ). elim o as (λ _. ℕ) [ None ↦ 1 | Some k ↦ k ]) e
 
   pub values-allowed : ValuesAllowed (Plain p) (Own n) (plan_at p n) (λ f. bottom_label p n (Rank f)) (value_labels p n 0)
   values-allowed = record {
@@ -102,8 +100,8 @@ module _ (p : Program) (n : ℕ) (inside : n < length p.terms) where
         (one_product (λ l. Allowed p (kind.Const c) (l ∷ []) (bottom_label p n (Literal c) ∷ [])) (factor_count p n) l
         (record { holds = refl; ins_are = (inl refl, tt); outs_are = refl })
         (record { holds = refl; ins_are = (inl refl, tt); outs_are = refl }) x);
-    scaling = λ c l is x. plain p _ _ _ (omega arith) refl (scaling_allowed c l (coefficient_is (Some c) is) x);
+    scaling = λ c l is x. plain p _ _ _ (omega arith) refl (scaling_allowed c l (coefficient-by p n (Some c) is) x);
     whole = inl refl;
     unscaled = λ l is x.
-        inr (subst (λ (c : ℕ). IsOneOf l (cond (eqb c 1) (partial_labels p n (factor_count p n)) [])) (sym (coefficient_is None is)) x);
+        inr (subst (λ (c : ℕ). IsOneOf l (cond (eqb c 1) (partial_labels p n (factor_count p n)) [])) (sym (coefficient-by p n None is)) x);
   }

@@ -72,17 +72,17 @@ module _ (p : Program) (es : List Entries) (n : ℕ)
       (goes_on (suc k) (omega arith) h)
 
   -- the full prefixes of its tree are the pattern
-  full_prefixes : 0 < levels → prefixes_at join.has sizes levels ≡ filter (pat p es) (tuples sizes)
-  full_prefixes h =
+  pub joined-prefixes : 0 < levels → prefixes_at join.has sizes levels ≡ filter (pat p es) (tuples sizes)
+  joined-prefixes h =
       ap (λ (part : Part). prefixes_at part.has sizes levels) same_join
       ∙ result-paths p es holds given (omega (arith, all)) h
 
   -- and the values that are written are the numbers that the program denotes there
-  full_values : 0 < levels
+  pub joined-values : 0 < levels
       → vals_of (stream_at (joined_shape sizes ss n levels) Value) ≡ map (den p es) (prefixes_at join.has sizes levels)
-  full_values h =
+  joined-values h =
       entries-values p es (joined_shape sizes ss n levels) (result-values p es n holds given all h)
-      ∙ ap (map (den p es)) (sym (full_prefixes h))
+      ∙ ap (map (den p es)) (sym (joined-prefixes h))
 
   -- so some levels list the result
   some_level : 0 < levels → ListsResult p es levels (joined_written sizes ss n levels)
@@ -90,9 +90,9 @@ module _ (p : Program) (es : List Entries) (n : ℕ)
       let same : joined_written sizes ss n levels ≡ tree_written join.has sizes levels (den p es) =
       streams-tree join.has sizes (λ k. stream_at (joined_shape sizes ss n k) Coordinate) levels
       (vals_of (stream_at (joined_shape sizes ss n levels) Value)) (den p es) joined_ends
-      (λ k less. coordinates-listed (joined_shape sizes ss n (suc k))) (full_values h)
+      (λ k less. coordinates-listed (joined_shape sizes ss n (suc k))) (joined-values h)
       in
-      subst (ListsResult p es levels) (sym same) (tree-entries p es join.has sizes levels h (full_prefixes h))
+      subst (ListsResult p es levels) (sym same) (tree-entries p es join.has sizes levels h (joined-prefixes h))
 
   -- with no level the value is there where the pattern is
   no_level : levels ≡ 0 → ListsResult p es 0 (joined_written sizes ss n 0)

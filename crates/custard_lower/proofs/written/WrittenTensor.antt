@@ -1,5 +1,5 @@
 -- What the writers leave of the streams of a program's only term is its result.
-use Rattle.std.specs.Prelude.{◌≡◌, ◌<◌, ◌≤◌, ℕ, suc, Bool, true, List, [], ◌∷◌, length}
+use Rattle.std.specs.Prelude.{◌≡◌, ◌<◌, ◌≤◌, ℕ, suc, Bool, true, List, [], ◌∷◌, length, refl}
 use Rattle.std.specs.List.{filter, range_with_len}
 use mathlib.Core.List.{map}
 use Rattle.std.proofs.Common.{arith, sym, ◌∙◌, ap, subst, ◌⊎◌, inl, inr}
@@ -18,14 +18,19 @@ use Rattle.block_core.specs.Written.{segs_of, crds_of, vals_of}
 use Rattle.stream_model.specs.declared.labels.Attr.TheVariants.{Coordinate, Value}
 use Rattle.stream_model.specs.Grow.{path_fibers}
 use Rattle.stream_model.specs.Terms.{TermData, term_data, summands_of}
-use Rattle.stream_model.specs.Trees.{free_count, reduced_sizes, in_pruned, value_term}
+use Rattle.stream_model.specs.Trees.{free_count, reduced_sizes, in_reduced, in_pruned, value_reduced, value_term}
+use Rattle.stream_model.proofs.Reduced.{reduced-closed, value-begins}
 use Rattle.stream_model.specs.Labels.{reduced_shape, result_sizes, stream_at}
 use Rattle.stream_model.proofs.Denoted.{term-denotes}
 use Rattle.stream_model.proofs.Flat.{in_order}
 use Rattle.stream_model.proofs.Results.{EachSized, accepted-sized, term-paths, term-values}
 use Rattle.custard_lower.proofs.written.WrittenLevels.{prefixes_at, level_ends, level_coordinates, tree_written}
 use Rattle.custard_lower.proofs.written.WrittenEntries.{ListsResult, streams-tree, entries-values, tree-entries, leaf-entries}
-use Rattle.custard_lower.proofs.written.WrittenPruned.{pruned_tree, pruned-ends, pruned-coordinates}
+use Rattle.custard_lower.proofs.written.WrittenPruned.{pruned-ends, pruned-coordinates}
+
+-- the tree of a term without so many loops that is pruned from the first level on
+abbrev pub pruned_tree : TermData → ℕ → List ℕ → Bool
+pruned_tree d g p = in_pruned d g 1 p
 
 -- each of r levels, counted from 1, is pruned from its own level on or earlier
 abbrev pub PrunedInTime : ℕ → (ℕ → ℕ) → Type 0
@@ -59,12 +64,14 @@ pruned-levels d g r prune f value e h v =
     ends : (j : ℕ) → j < r → segs_of (suc j) (coordinates (suc j)) ≡ level_ends (pruned_tree d g) (reduced_sizes d g) j
     ends j less =
         let in_time = h (suc j) (omega arith) less in
-        pruned-ends d g (prune (suc j)) j in_time.0 in_time.1 (omega (arith, e, less))
+        pruned-ends (in_reduced d g) (value_reduced d g) (reduced_sizes d g) refl (λ q r l. value-begins d g q r)
+        (λ q c l. reduced-closed d g q (c ∷ [])) (prune (suc j)) j in_time.0 in_time.1 (omega (arith, e, less))
 
     last_ones : (j : ℕ) → j < r → crds_of (coordinates (suc j)) ≡ level_coordinates (pruned_tree d g) (reduced_sizes d g) j
     last_ones j less =
         let in_time = h (suc j) (omega arith) less in
-        pruned-coordinates d g (prune (suc j)) j in_time.0 in_time.1 (omega (arith, e, less))
+        pruned-coordinates (in_reduced d g) (value_reduced d g) (reduced_sizes d g) refl (λ q r l. value-begins d g q r)
+        (λ q c l. reduced-closed d g q (c ∷ [])) (prune (suc j)) j in_time.0 in_time.1 (omega (arith, e, less))
 
 -- a program whose only term is t
 module _ (p : Program) (es : List Entries) (t : Term)
