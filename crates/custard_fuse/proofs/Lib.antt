@@ -1,0 +1,6 @@
+mod FusedPlans
+mod FusedTerms
+mod FusedLabels
+mod FusedUnions
+mod FusedSound
+mod WorkedFusing

@@ -1,0 +1,4 @@
+pub mod Sharing
+pub mod Fusing
+pub mod FusedRules
+pub mod Laws

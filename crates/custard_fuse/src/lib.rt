@@ -1,0 +1,6 @@
+//! The rules of labels of fused graphs, whose terms are united at the scanners, level by level, and not as finished terms.
+#![tactic(auto)]
+
+mod laws;
+
+pub use laws::fused_rules_hold;
