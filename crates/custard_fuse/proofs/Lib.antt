@@ -3,4 +3,10 @@ mod FusedTerms
 mod FusedLabels
 mod FusedUnions
 mod FusedSound
+mod FusedAllows
+mod SharedWalk
+mod TermsWalk
+mod ResultWalk
+mod FusedServes
+mod FusedGraph
 mod WorkedFusing

@@ -3,4 +3,4 @@
 
 mod laws;
 
-pub use laws::fused_rules_hold;
+pub use laws::{fused_graph_carries, fused_rules_hold};

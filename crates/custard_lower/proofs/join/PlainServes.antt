@@ -28,29 +28,29 @@ use Rattle.custard_lower.proofs.written.ResultGraph.{RulesServe}
 
 -- ---- drains and casts
 
-same_copies : (l : Label) (n m k : ℕ) → over (λ _. l) n k ≡ map (λ _. l) (over (λ _. l) m k)
-same_copies l n m zero = refl
-same_copies l n m (suc k) = ap (λ (ls : List Label). l ∷ ls) (same_copies l (suc n) (suc m) k)
+pub same-copies : (l : Label) (n m k : ℕ) → over (λ _. l) n k ≡ map (λ _. l) (over (λ _. l) m k)
+same-copies l n m zero = refl
+same-copies l n m (suc k) = ap (λ (ls : List Label). l ∷ ls) (same-copies l (suc n) (suc m) k)
 
-number_copies : (l : Label) (n k : ℕ) → length (over (λ _. l) n k) ≡ k
-number_copies l n zero = refl
-number_copies l n (suc k) = ap suc (number_copies l (suc n) k)
+pub number-copies : (l : Label) (n k : ℕ) → length (over (λ _. l) n k) ≡ k
+number-copies l n zero = refl
+number-copies l n (suc k) = ap suc (number-copies l (suc n) k)
 
 plain_ends : (p : Program) → Ends (PlainRules p)
 plain_ends p zero l = record { allowed = record { holds = refl; ins_are = (inl refl, tt); outs_are = refl }; few = omega arith }
 plain_ends p (suc k) l =
-    let n = number_copies l 0 (suc k) in
+    let n = number-copies l 0 (suc k) in
     record {
-      allowed = record { holds = grind (arith, nat_tests, n); ins_are = (inl refl, tt); outs_are = same_copies l 0 0 (suc k) };
+      allowed = record { holds = grind (arith, nat_tests, n); ins_are = (inl refl, tt); outs_are = same-copies l 0 0 (suc k) };
       few = omega arith;
     }
 
 -- ---- tensors
 
 module _ (p : Program) (ok : accepted p ≡ true) (es : List Entries) (same : length es ≡ length p.tensors) where
-  tensor_there : (t f tensor : ℕ) → t < length p.terms → f < factor_count p t → tensor ≡ (plan_access (plan_at p t) f).tensor
+  pub tensor-there : (t f tensor : ℕ) → t < length p.terms → f < factor_count p t → tensor ≡ (plan_access (plan_at p t) f).tensor
       → tensor < length (storages_of p es)
-  tensor_there t f tensor inside less is =
+  tensor-there t f tensor inside less is =
       let m = matched p es ok same t inside in
       let n = m.number in
       subst (λ (x : ℕ). x < length (storages_of p es)) (sym is) (m.there f (omega (arith, less, n)))
@@ -62,7 +62,7 @@ module _ (p : Program) (ok : accepted p ≡ true) (es : List Entries) (same : le
       let two = and_parts _ _ (and_parts _ _ one.1).1 in
       let three = and_parts _ _ (and_parts _ _ two.1).1 in
       let some = eqb-true level (suc (levels_before (plan_access (plan_at p x.term) x.factor).has (x.level - 1))) three.1 in (
-        tensor_there x.term x.factor tensor (ltb-true x.term (length p.terms) one.0) (ltb-true x.factor (factor_count p x.term) two.0)
+        tensor-there x.term x.factor tensor (ltb-true x.term (length p.terms) one.0) (ltb-true x.factor (factor_count p x.term) two.0)
             (eqb-true tensor (plan_access (plan_at p x.term) x.factor).tensor three.0),
         subst (λ (i : ℕ). 1 ≤ i) (sym some) (omega arith),
       )
@@ -70,7 +70,7 @@ module _ (p : Program) (ok : accepted p ≡ true) (es : List Entries) (same : le
       let x = named 0 ins outs in
       let one = and_parts _ _ a.holds in
       let two = and_parts _ _ one.1 in
-      tensor_there x.term x.factor tensor (ltb-true x.term (length p.terms) one.0) (ltb-true x.factor (factor_count p x.term) two.0)
+      tensor-there x.term x.factor tensor (ltb-true x.term (length p.terms) one.0) (ltb-true x.factor (factor_count p x.term) two.0)
       (eqb-true tensor (plan_access (plan_at p x.term) x.factor).tensor two.1)
   allowed-in-range kind.Root ins outs a = tt
   allowed-in-range kind.Repeat ins outs a = tt
