@@ -1,5 +1,5 @@
 -- The graph of a program whose terms are fused: its labels are allowed, so it carries what the plain graph does.
-use Rattle.std.specs.Prelude.{◌≡◌, Bool, true, cond}
+use Rattle.std.specs.Prelude.{◌≡◌, ◌<◌, ◌^◌, Bool, true, cond, length}
 use Rattle.std.proofs.Common.{sym, ap, subst}
 use Rattle.sam_model.specs.declared.program.Program.{Program}
 use Rattle.sam_model.specs.Accepted.{accepted}
@@ -11,6 +11,7 @@ use Rattle.label_rules.specs.Holding.{RulesMet}
 use Rattle.custard_lower.specs.declared.reductions.Levels.{Levels}
 use Rattle.custard_lower.specs.DraftGraph.{graph_of}
 use Rattle.custard_lower.specs.Lowered.{low, Carries}
+use Rattle.custard_lower.proofs.draft.SmallGraphs.{small-blocks, small-channels}
 use Rattle.custard_lower.proofs.written.ResultGraph.{RulesServe, ResultStands, result-formed, result-allowed, result-few, result-carries}
 use Rattle.custard_fuse.specs.Fusing.{plans_of, is_fused, fused_levels, fused_draft, fus}
 use Rattle.custard_fuse.specs.FusedRules.{last_term, FusedAllowed, Deep}
@@ -18,6 +19,7 @@ use Rattle.custard_fuse.specs.Laws.{FusedCarries}
 use Rattle.custard_fuse.proofs.FusedAllows.{FusedRules}
 use Rattle.custard_fuse.proofs.FusedServes.{fused-serves}
 use Rattle.custard_fuse.proofs.ResultWalk.{fused-result}
+use Rattle.custard_fuse.proofs.SmallFused.{small-fused}
 
 module _ (p : Program) (ok : accepted p ≡ true) (fused : is_fused p ≡ true) where
   abbrev levels : Levels
@@ -36,6 +38,8 @@ module _ (p : Program) (ok : accepted p ≡ true) (fused : is_fused p ≡ true) 
   fused-carries = record {
     formed = subst WellFormed graph (result-formed p Deep (FusedRules p) serves levels result);
     few_payloads = subst FewPayloads graph (result-few p Deep (FusedRules p) serves levels result);
+    few_blocks = subst (λ (g : Graph). length g.blocks < 2 ^ 32) graph (small-blocks (fused_draft p) (small-fused p ok fused));
+    few_channels = subst (λ (g : Graph). length g.channels < 2 ^ 32) graph (small-channels (fused_draft p) (small-fused p ok fused));
     allowed =
         subst (λ (g : Graph). RulesMet (FusedAllowed p) g) graph
         (λ b i. (result-allowed p Deep (FusedRules p) serves levels result b i).allowed);

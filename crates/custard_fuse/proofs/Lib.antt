@@ -8,5 +8,6 @@ mod SharedWalk
 mod TermsWalk
 mod ResultWalk
 mod FusedServes
+mod SmallFused
 mod FusedGraph
 mod WorkedFusing

@@ -73,10 +73,10 @@ stand-count made (w ∷ ws) [] x = absurd x
 stand-count made (w ∷ ws) (l ∷ ls) x = ap suc (stand-count made ws ls x.1)
 
 -- the parts of a list of terms have no more factors
-factors_before : (k : ℕ) (ts : List Plan) → all_factors (take k ts) ≤ all_factors ts
-factors_before zero ts = omega arith
-factors_before (suc k) [] = omega arith
-factors_before (suc k) (t ∷ ts) = let r = factors_before k ts in omega (arith, r)
+pub factors-before : (k : ℕ) (ts : List Plan) → all_factors (take k ts) ≤ all_factors ts
+factors-before zero ts = omega arith
+factors-before (suc k) [] = omega arith
+factors-before (suc k) (t ∷ ts) = let r = factors-before k ts in omega (arith, r)
 
 pub factors-append : (xs ys : List Plan) → all_factors (xs ++ ys) ≡ all_factors xs + all_factors ys
 factors-append [] ys = omega arith
@@ -235,7 +235,7 @@ module _ (p : Program) (ok : accepted p ≡ true) (fused : is_fused p ≡ true) 
     few_before : (e : ℕ) → suc e < length p.terms → all_factors (take (suc e) (plans_of p)) + factor_count p (suc e) ≤ 8
     few_before e l =
         let a = few-factors p ok fused in
-        let b = factors_before (suc (suc e)) (plans_of p) in
+        let b = factors-before (suc (suc e)) (plans_of p) in
         let c = ap all_factors (plans-more p (suc e) l) ∙ factors-append (take (suc e) (plans_of p)) (plan_at p (suc e) ∷ []) in
         omega (arith, a, b, c)
 
@@ -356,7 +356,7 @@ module _ (p : Program) (ok : accepted p ≡ true) (fused : is_fused p ≡ true) 
     pub coordinates_stand : (k : ℕ) → k < d → Stands n.made (get_or n.coordinates k 0) (level_label p 0 (suc k))
     pub references_stand : AllStand n.made n.references (reference_labels d 0 (length p.terms))
 
-  abbrev level_of : ℕ → Nest → List Plan → Nest
+  abbrev pub level_of : ℕ → Nest → List Plan → Nest
   level_of d n ts =
       let s = scanned_terms (last_term p) h d 0 ts n.references (record { made = n.made; coordinates = []; references = [] }) in
       let k = factors (get_or ts 0 no_plan) in

@@ -1,5 +1,5 @@
 -- What holds of fused graphs, and of graphs whose labels their rules allow.
-use Rattle.std.specs.Prelude.{◌≡◌, true, List, length}
+use Rattle.std.specs.Prelude.{◌≡◌, ◌<◌, ◌^◌, true, List, length}
 use Rattle.sam_model.specs.declared.tensors.Entries.{Entries}
 use Rattle.sam_model.specs.declared.program.Program.{Program}
 use Rattle.sam_model.specs.Accepted.{accepted}
@@ -25,6 +25,8 @@ FusedRulesHold =
 pub record FusedCarries (p : Program) : Type 0 where
   pub formed : WellFormed (fus p)
   pub few_payloads : FewPayloads (fus p)
+  pub few_blocks : length (fus p).blocks < 2 ^ 32
+  pub few_channels : length (fus p).channels < 2 ^ 32
   pub allowed : RulesMet (FusedAllowed p) (fus p)
   pub carries : (es : List Entries) → length es ≡ length p.tensors → Carries p (fus p) es
 

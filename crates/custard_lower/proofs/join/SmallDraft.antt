@@ -40,38 +40,38 @@ use Rattle.custard_lower.proofs.draft.SmallGraphs.{read_count, read-number}
 -- ---- the weight of a draft
 
 -- a block, its outputs and its reads
-abbrev weight_of : Made → ℕ
+abbrev pub weight_of : Made → ℕ
 weight_of m = suc (length m.ins + length m.labels)
 
-abbrev weight : List Made → ℕ
+abbrev pub weight : List Made → ℕ
 weight [] = 0
 weight (m ∷ made) = weight_of m + weight made
 
-weight-append : (xs ys : List Made) → weight (xs ++ ys) ≡ weight xs + weight ys
+pub weight-append : (xs ys : List Made) → weight (xs ++ ys) ≡ weight xs + weight ys
 weight-append [] ys = omega arith
 weight-append (m ∷ xs) ys = omega (arith, weight-append xs ys)
 
 -- one block more
-weight-emit : (made : List Made) (m : Made) → weight (made ++ m ∷ []) ≡ weight made + weight_of m
+pub weight-emit : (made : List Made) (m : Made) → weight (made ++ m ∷ []) ≡ weight made + weight_of m
 weight-emit made m = omega (arith, weight-append made (m ∷ []))
 
 -- blocks of a weight each
-weight-map : (f : ℕ → Made) (n : ℕ) → ((x : ℕ) → weight_of (f x) ≤ n) → (xs : List ℕ) → weight (map f xs) ≤ n * length xs
+pub weight-map : (f : ℕ → Made) (n : ℕ) → ((x : ℕ) → weight_of (f x) ≤ n) → (xs : List ℕ) → weight (map f xs) ≤ n * length xs
 weight-map f n h [] = omega arith
 weight-map f n h (x ∷ xs) = omega (arith, h x, weight-map f n h xs, times_more n (length xs))
   where
     times_more : (n k : ℕ) → n * suc k ≡ n + n * k
     times_more n k = grind arith
 
-blocks-weigh : (made : List Made) → length made ≤ weight made
+pub blocks-weigh : (made : List Made) → length made ≤ weight made
 blocks-weigh [] = omega arith
 blocks-weigh (m ∷ made) = omega (arith, blocks-weigh made)
 
-outputs-weigh : (made : List Made) → outputs_of made ≤ weight made
+pub outputs-weigh : (made : List Made) → outputs_of made ≤ weight made
 outputs-weigh [] = omega arith
 outputs-weigh (m ∷ made) = omega (arith, outputs-weigh made, length-append m.labels (labels_of made))
 
-reads-weigh : (made : List Made) → read_count made ≤ weight made
+pub reads-weigh : (made : List Made) → read_count made ≤ weight made
 reads-weigh [] = omega arith
 reads-weigh (m ∷ made) = omega (arith, reads-weigh made, length-append m.ins (flat_map (λ m. m.ins) made))
 
@@ -125,7 +125,7 @@ module _ (trees : TermTrees) (t : Plan) (small : PlanIsSmall t) where
   first-met [] w = (refl, refl)
   first-met (f ∷ fs) w = (refl, omega arith)
 
-  level-weighs : (d : ℕ) (n : Nest) → weight (level trees t d n).made ≤ weight n.made + 256
+  pub level-weighs : (d : ℕ) (n : Nest) → weight (level trees t d n).made ≤ weight n.made + 256
   level-weighs d n =
       let w = outputs_of n.made in
       let fs = asked t d in
@@ -163,7 +163,7 @@ module _ (trees : TermTrees) (t : Plan) (small : PlanIsSmall t) where
       omega (arith, weight-emit v.made m, weight-emit (v.made ++ m ∷ []) (scaling trees t v.values (outputs_of v.made)))
 
   -- an array for each factor, their product, and the coefficient
-  valued-weighs : (made : List Made) (references : List ℕ) → weight (valued trees t made references).made ≤ weight made + 64
+  pub valued-weighs : (made : List Made) (references : List ℕ) → weight (valued trees t made references).made ≤ weight made + 64
   valued-weighs made references =
       let w = outputs_of made in
       let first : Valued = record { made = arrays trees t made references; values = w } in
@@ -202,7 +202,7 @@ module _ (trees : TermTrees) (t : Plan) (small : PlanIsSmall t) where
     ),
   )
 
-  reduced-weighs : (marks : List Bool) (l : Levels)
+  pub reduced-weighs : (marks : List Bool) (l : Levels)
       → (weight (reduced trees marks l).made ≤ weight l.made + 7 * length marks)
       × (length (reduced trees marks l).coordinates ≤ length l.coordinates + 2 * length marks)
   reduced-weighs [] l = (omega arith, omega arith)
@@ -229,7 +229,7 @@ module _ (trees : PrunedTrees) where
       let twice = length-set (set l.coordinates (suc f - 1) w) (suc f) (suc w) in
       (omega (arith, r.0, weight-emit l.made (drop_fiber trees (suc f) l)), omega (arith, r.1, once, twice))
 
-  pruned-weighs : (n : ℕ) (l : Levels)
+  pub pruned-weighs : (n : ℕ) (l : Levels)
       → (weight (pruned_below trees n l).made ≤ weight l.made + 5 * n)
       × (length (pruned_below trees n l).coordinates ≤ length l.coordinates + 1)
   pruned-weighs zero l = (omega arith, omega arith)
@@ -352,7 +352,7 @@ terms-joined p ok n tree l (t ∷ ts) fit few =
     let rest = terms-joined p ok (suc n) (Joined n 1) (with_term p n tree l t) ts fits.1 both.1 in
     (omega (arith, one.0, both.0, rest.0), rest.1)
 
-writers-weigh : (l : Levels) → length l.coordinates ≤ 25 → weight (with_writers l) ≤ weight l.made + 52
+pub writers-weigh : (l : Levels) → length l.coordinates ≤ 25 → weight (with_writers l) ≤ weight l.made + 52
 writers-weigh l few =
     let levels = map (level_writer l.coordinates) (below (length l.coordinates)) in
     omega (
