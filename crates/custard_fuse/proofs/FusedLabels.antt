@@ -9,7 +9,7 @@ use Rattle.stream_tokens.specs.declared.Token.{Token}
 use Rattle.sam_model.specs.Tensors.{value_at}
 use Rattle.sam_model.specs.declared.tensors.Entries.{Entries}
 use Rattle.sam_model.specs.declared.program.Program.{Program}
-use Rattle.sam_model.specs.Accepted.{accepted}
+use Rattle.sam_model.specs.Program.{accepted}
 use Rattle.stream_model.specs.declared.labels.Attr.{Attr}
 use Rattle.stream_model.specs.declared.labels.Attr.TheVariants.{Coordinate, Rank, FactorValue, Partial, Whole, Literal}
 use Rattle.stream_model.specs.declared.labels.Label.{Label}

@@ -7,7 +7,7 @@ use Rattle.std.proofs.lemmas.List.{length-map}
 use Rattle.std.specs.Int.Bits.{bit_or}
 use Rattle.sam_model.specs.declared.tensors.Entries.{Entries}
 use Rattle.sam_model.specs.declared.program.Program.{Program}
-use Rattle.sam_model.specs.Accepted.{accepted}
+use Rattle.sam_model.specs.Program.{accepted}
 use Rattle.stream_model.specs.declared.labels.Attr.TheVariants.{Whole}
 use Rattle.stream_model.specs.declared.labels.Label.{Label}
 use Rattle.stream_model.specs.Fused.{shared_levels}

@@ -14,7 +14,7 @@ use Rattle.stream_tokens.proofs.Algebra.{map-map}
 use Rattle.sam_model.specs.declared.tensors.Entries.{Entries}
 use Rattle.sam_model.specs.declared.program.Term.{Term}
 use Rattle.sam_model.specs.declared.program.Program.{Program}
-use Rattle.sam_model.specs.Accepted.{accepted}
+use Rattle.sam_model.specs.Program.{accepted}
 use Rattle.sam_model.specs.Children.{Ranked}
 use Rattle.sam_model.specs.Lists.{below}
 use Rattle.sam_model.specs.Denote.{Loop}

@@ -8,7 +8,7 @@ use Rattle.std.proofs.lemmas.List.{length_push, length-take-le}
 use Rattle.sam_model.specs.declared.tensors.Entries.{Entries}
 use Rattle.sam_model.specs.declared.program.Program.{Program}
 use Rattle.sam_model.specs.Lists.{below}
-use Rattle.sam_model.specs.Accepted.{accepted}
+use Rattle.sam_model.specs.Program.{accepted}
 use Rattle.sam_model.specs.Denote.{Loop}
 use Rattle.sam_model.proofs.Lists.{filter-ext}
 use Rattle.stream_model.specs.declared.labels.Attr.{Attr}

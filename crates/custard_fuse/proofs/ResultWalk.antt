@@ -8,7 +8,7 @@ use Rattle.std.proofs.lemmas.Bool.Decides.{nat_tests}
 use Rattle.stream_tokens.specs.Nest.{Leaf, Fiber}
 use Rattle.sam_model.specs.declared.tensors.Entries.{Entries}
 use Rattle.sam_model.specs.declared.program.Program.{Program}
-use Rattle.sam_model.specs.Accepted.{accepted}
+use Rattle.sam_model.specs.Program.{accepted}
 use Rattle.sam_model.specs.Lists.{tuples}
 use Rattle.sam_model.specs.Denote.{pat, den, result_entries}
 use Rattle.sam_model.proofs.Lists.{list_any-mono, not-true}

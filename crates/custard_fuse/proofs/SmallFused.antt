@@ -5,7 +5,7 @@ use Rattle.std.proofs.Common.{arith, sym, ◌∙◌, ap, subst, length-append}
 use Rattle.std.proofs.lemmas.List.{length-map}
 use Rattle.std.proofs.lemmas.List.FromFn.{length-range_with_len}
 use Rattle.sam_model.specs.declared.program.Program.{Program}
-use Rattle.sam_model.specs.Accepted.{accepted}
+use Rattle.sam_model.specs.Program.{accepted}
 use Rattle.stream_model.specs.declared.labels.Attr.TheVariants.{Rank}
 use Rattle.stream_model.specs.Fused.{shared_levels}
 use Rattle.label_rules.specs.declared.plans.Plan.{Plan}
