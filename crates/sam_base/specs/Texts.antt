@@ -38,7 +38,7 @@ waiting_lines head (w ∷ ws) = waiting_line head w ++ waiting_lines head ws
 
 -- what is said of a fault
 abbrev pub text_of : Fault → List ℕ
-text_of Usage = text_line (codes "sam: usage: sam COMMAND SUBJECT [--capacity N] [--of C=N,..] [--schedule FILE]")
+text_of Usage = text_line (codes "sam: usage: sam COMMAND SUBJECT [--capacity N] [--of C=N,..] [--schedule FILE] [--fused]")
 text_of (Missing name) = text_line (codes "sam: missing " ++ name)
 text_of (ReadFault name) = text_line (codes "sam: read fault " ++ name)
 text_of (Program kind line) = text_line (codes "sam: program line " ++ decimal line ++ codes ": " ++ program_kind kind)

@@ -200,7 +200,7 @@ pub fn fault_text(alloc: Global, fault: &Fault) -> Result<Name, AllocError>
     match fault {
         Fault::Usage => Name::from_slice(
             alloc,
-            b"sam: usage: sam COMMAND SUBJECT [--capacity N] [--of C=N,..] [--schedule FILE]\n",
+            b"sam: usage: sam COMMAND SUBJECT [--capacity N] [--of C=N,..] [--schedule FILE] [--fused]\n",
         ),
         Fault::Missing(name) => name_line(alloc, "sam: missing ", name),
         Fault::ReadFault(name) => name_line(alloc, "sam: read fault ", name),
