@@ -36,12 +36,15 @@ module _ (p : Program) (ok : accepted p ≡ true) (fused : is_fused p ≡ true) 
 
   pub fused-carries : FusedCarries p
   fused-carries = record {
-    formed = subst WellFormed graph (result-formed p Deep (FusedRules p) serves levels result);
-    few_payloads = subst FewPayloads graph (result-few p Deep (FusedRules p) serves levels result);
-    few_blocks = subst (λ (g : Graph). length g.blocks < 2 ^ 32) graph (small-blocks (fused_draft p) (small-fused p ok fused));
-    few_channels = subst (λ (g : Graph). length g.channels < 2 ^ 32) graph (small-channels (fused_draft p) (small-fused p ok fused));
     allowed =
         subst (λ (g : Graph). RulesMet (FusedAllowed p) g) graph
         (λ b i. (result-allowed p Deep (FusedRules p) serves levels result b i).allowed);
-    carries = λ es same. subst (λ (g : Graph). Carries p g es) graph (result-carries p Deep (FusedRules p) serves levels result es same);
+    computes = record {
+      formed = subst WellFormed graph (result-formed p Deep (FusedRules p) serves levels result);
+      few_payloads = subst FewPayloads graph (result-few p Deep (FusedRules p) serves levels result);
+      few_blocks = subst (λ (g : Graph). length g.blocks < 2 ^ 32) graph (small-blocks (fused_draft p) (small-fused p ok fused));
+      few_channels = subst (λ (g : Graph). length g.channels < 2 ^ 32) graph (small-channels (fused_draft p) (small-fused p ok fused));
+      carries = λ es same.
+          subst (λ (g : Graph). Carries p g es) graph (result-carries p Deep (FusedRules p) serves levels result es same);
+    };
   }

@@ -1,15 +1,14 @@
 -- What holds of fused graphs, and of graphs whose labels their rules allow.
-use Rattle.std.specs.Prelude.{◌≡◌, ◌<◌, ◌^◌, true, List, length}
+use Rattle.std.specs.Prelude.{◌≡◌, true, List, length}
 use Rattle.sam_model.specs.declared.tensors.Entries.{Entries}
 use Rattle.sam_model.specs.declared.program.Program.{Program}
 use Rattle.sam_model.specs.Program.{accepted}
 use Rattle.stream_model.specs.Labels.{label_stream}
 use Rattle.graph.specs.declared.graphs.Graph.{Graph}
 use Rattle.graph.specs.Wiring.{WellFormed}
-use Rattle.graph.specs.Assembly.{FewPayloads}
 use Rattle.label_rules.specs.Storages.{storages_of}
 use Rattle.label_rules.specs.Holding.{RulesMet, LabelsHold}
-use Rattle.custard_lower.specs.Lowered.{Carries}
+use Rattle.custard_lower.specs.Lowered.{Computes}
 use Rattle.custard_fuse.specs.Fusing.{is_fused, fus}
 use Rattle.custard_fuse.specs.FusedRules.{FusedAllowed, Deep}
 
@@ -21,14 +20,10 @@ FusedRulesHold =
     → accepted p ≡ true → is_fused p ≡ true → length es ≡ length p.tensors → WellFormed g → RulesMet (FusedAllowed p) g
     → LabelsHold (storages_of p es) (label_stream p es) Deep g
 
--- the fused graph of a program, whatever its tensors have: its labels are allowed, and over them it carries what the plain graph does
+-- the fused graph of a program: its labels are allowed, and it computes the tensor that the plain graph does
 pub record FusedCarries (p : Program) : Type 0 where
-  pub formed : WellFormed (fus p)
-  pub few_payloads : FewPayloads (fus p)
-  pub few_blocks : length (fus p).blocks < 2 ^ 32
-  pub few_channels : length (fus p).channels < 2 ^ 32
   pub allowed : RulesMet (FusedAllowed p) (fus p)
-  pub carries : (es : List Entries) → length es ≡ length p.tensors → Carries p (fus p) es
+  pub computes : Computes p (fus p)
 
 -- that of every accepted program whose terms are fused
 abbrev pub FusedGraphCarries : Type 0

@@ -32,11 +32,15 @@ pub record Carries (p : Program) (g : Graph) (es : List Entries) : Type 0 where
   pub written_in_range : InRange (length (result_sizes p)) (written_of p g es)
   pub written_tensor : listing (written_of p g es) ≡ result_entries p es
 
--- the graph of a program, whatever its tensors have
-pub record Lowered (p : Program) (g : Graph) : Type 0 where
-  pub is_low : g ≡ low p
+-- a graph that computes the tensor of a program, whatever its tensors have
+pub record Computes (p : Program) (g : Graph) : Type 0 where
   pub formed : WellFormed g
   pub few_payloads : FewPayloads g
   pub few_blocks : length g.blocks < 2 ^ 32
   pub few_channels : length g.channels < 2 ^ 32
   pub carries : (es : List Entries) → length es ≡ length p.tensors → Carries p g es
+
+-- the graph of a program
+pub record Lowered (p : Program) (g : Graph) : Type 0 where
+  pub is_low : g ≡ low p
+  pub computes : Computes p g

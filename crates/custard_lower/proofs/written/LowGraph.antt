@@ -43,13 +43,15 @@ module _ (p : Program) (ok : accepted p ≡ true) where
       let graph : graph_of (with_writers levels) ≡ g = ap graph_of (sym draft_is) ∙ sym is in
       record {
         is_low = is;
-        formed = subst WellFormed graph (result-formed p Shallow (PlainRules p) (plain-serves p ok) levels result);
-        few_payloads = subst FewPayloads graph (result-few p Shallow (PlainRules p) (plain-serves p ok) levels result);
-        few_blocks = blocks;
-        few_channels = channels;
-        carries = λ es same.
-            subst (λ (g : Graph). Carries p g es) graph
-            (result-carries p Shallow (PlainRules p) (plain-serves p ok) levels result es same);
+        computes = record {
+          formed = subst WellFormed graph (result-formed p Shallow (PlainRules p) (plain-serves p ok) levels result);
+          few_payloads = subst FewPayloads graph (result-few p Shallow (PlainRules p) (plain-serves p ok) levels result);
+          few_blocks = blocks;
+          few_channels = channels;
+          carries = λ es same.
+              subst (λ (g : Graph). Carries p g es) graph
+              (result-carries p Shallow (PlainRules p) (plain-serves p ok) levels result es same);
+        };
       }
 
   -- the labels of its blocks are allowed
