@@ -17,10 +17,11 @@ use Rattle.sam_model.specs.declared.tensors.Entries.{Entries}
 use Rattle.sam_model.specs.Lists.{smaller, within, items_at}
 use Rattle.sam_model.specs.Tensors.{entry_list, stored_as}
 use Rattle.levels.specs.declared.keys.Key.{Key}
-use Rattle.levels.specs.Keys.{packed, entry_of, IsKey, AreInOrder}
+use Rattle.levels.specs.Keys.{packed, weight, digits, key_entry, IsKey, AreInOrder}
 use Rattle.levels.specs.Placed.{InOrder}
 use Rattle.levels.specs.Matches.{IsStorable, Matches}
 use Rattle.levels.specs.Sorted.{Sorted}
+use Rattle.levels.proofs.DigitLemmas.{below-size, length-digits, digits-packed, packed-small}
 use Rattle.levels.proofs.EntryLemmas.{entries-fit, length-stored, length-entry_list, entry-at}
 use Rattle.sam_model.proofs.Lists.{Each-weaker}
 use Rattle.levels.proofs.Growth.{Each-get}
@@ -55,9 +56,6 @@ digit a b s c d r h k = by_case (cases_order a b)
     by_case (inr (inl l)) = before-all _ _ a b r _ (less a b s c d l h) l
     by_case (inr (inr l)) = behind-all _ _ a b r _ (less b a s d c l k) l
 
-first-below : (c s : ℕ) (r : Bool) → (ltb c s && r) ≡ true → c < s
-first-below c s r h = grind (arith, nat_tests)
-
 alone : (a b : ℕ) → ltb a b ≡ (ltb a b || (eqb a b && false))
 alone a b = grind (arith, nat_tests)
 
@@ -70,7 +68,7 @@ packed-order (s ∷ sizes) [] y a b e f h k = absurd (omega (arith, e))
 packed-order (s ∷ sizes) (c ∷ x) [] a b e f h k = absurd (omega (arith, f))
 packed-order (s ∷ sizes) (c ∷ x) (d ∷ y) a b e f h k =
     packed-order sizes x y (a * s + c) (b * s + d) (omega (arith, e)) (omega (arith, f)) (and-right (ltb c s) (within sizes x) h) (and-right (ltb d s) (within sizes y) k)
-    ∙ digit a b s c d (smaller x y) (first-below c s (within sizes x) h) (first-below d s (within sizes y) k)
+    ∙ digit a b s c d (smaller x y) (below-size c s (within sizes x) h) (below-size d s (within sizes y) k)
 
 -- ---- keys
 
@@ -83,7 +81,22 @@ lt-cmp x y = by_case (ltb x y) (eqb x y)
     by_case false false = refl
 
 pub no-key : Key
-no-key = record { number = 0; entry = 0 }
+no-key = record { number = 0; value = 0 }
+
+module _ (t : Tensor) where
+  pub key-smaller : (x y : Key) → IsKey t x → IsKey t y → smaller (key_entry t x).0 (key_entry t y).0 ≡ ltb x.number y.number
+  key-smaller x y h k =
+      let sizes = items_at t.dims t.order in
+      sym (packed-order sizes (key_entry t x).0 (key_entry t y).0 0 0 (length-digits sizes x.number) (length-digits sizes y.number) h.inside k.inside)
+      ∙ ap (λ n. ltb n (packed 0 sizes (key_entry t y).0)) (sym h.number) ∙ ap (λ n. ltb x.number n) (sym k.number)
+
+  pub keys-ascend : (keys : List Key) → Each (IsKey t) keys → IsSortedByKey (λ (key : Key). key.number) nat_cmp keys → Sorted (λ x y. smaller y.0 x.0 ≡ false) (map (key_entry t) keys)
+  keys-ascend keys are up =
+      Sorted-map (λ (x y : Key). smaller (key_entry t y).0 (key_entry t x).0 ≡ false) (λ x y. smaller y.0 x.0 ≡ false) (key_entry t) (λ x y h. h) keys
+      (Sorted-from-places (λ (x y : Key). smaller (key_entry t y).0 (key_entry t x).0 ≡ false) no-key keys (λ i j l m.
+      key-smaller (get_or keys j no-key) (get_or keys i no-key) (Each-get (IsKey t) keys j no-key m are) (Each-get (IsKey t) keys i no-key (omega arith) are)
+      ∙ sym (lt-cmp (get_or keys j no-key).number (get_or keys i no-key).number)
+      ∙ sorted_far (λ (x y : Key). is_lt (nat_cmp x.number y.number)) (ranks_by nat_cmp_total (λ (key : Key). key.number)) keys up i j no-key (omega arith) m))
 
 module _ (t : Tensor) (e : Entries) (ok : IsStorable t) (fits : Matches t e) where
   -- the entry of a number, as its coordinates stand in the file
@@ -93,27 +106,31 @@ module _ (t : Tensor) (e : Entries) (ok : IsStorable t) (fits : Matches t e) whe
       get_or-map (λ entry. (items_at entry.0 t.order, entry.1)) (entry_list e.arity e.coords e.values) n ([], 0) ([], 0) inside
       ∙ ap (λ entry. (items_at entry.0 t.order, entry.1)) (entry-at e.arity e.coords e.values n ([], 0) h)
 
-  pub key-smaller : (x y : Key) → IsKey t e x → IsKey t e y → smaller (entry_of t e x).0 (entry_of t e y).0 ≡ ltb x.number y.number
-  key-smaller x y h k =
-      let all : length (stored_as t e).entries ≡ length e.values = length-stored t e in
-      let sizes = items_at t.dims t.order in
-      let fit = entries-fit t e ok fits in
-      let there = h.there in
-      let there' = k.there in
-      let a : (length (entry_of t e x).0 ≡ length sizes) × (within sizes (entry_of t e x).0 ≡ true)
-      = Each-get (λ entry. (length entry.0 ≡ length sizes) × (within sizes entry.0 ≡ true)) (stored_as t e).entries x.entry ([], 0) (omega (arith, all, there)) fit in
-      let b : (length (entry_of t e y).0 ≡ length sizes) × (within sizes (entry_of t e y).0 ≡ true)
-      = Each-get (λ entry. (length entry.0 ≡ length sizes) × (within sizes entry.0 ≡ true)) (stored_as t e).entries y.entry ([], 0) (omega (arith, all, there')) fit in
-      sym (packed-order sizes (entry_of t e x).0 (entry_of t e y).0 0 0 a.0 b.0 a.1 b.1)
-      ∙ ap (λ n. ltb n (packed 0 sizes (entry_of t e y).0)) (sym h.number) ∙ ap (λ n. ltb x.number n) (sym k.number)
+  pub record Keyed (n : ℕ) (key : Key) : Type 0 where
+    pub is_key : IsKey t key
+    pub entry : key_entry t key ≡ slice_index_or (stored_as t e).entries n ([], 0)
 
-  pub keys-ascend : (keys : List Key) → Each (IsKey t e) keys → IsSortedByKey (λ (key : Key). key.number) nat_cmp keys → Sorted (λ x y. smaller y.0 x.0 ≡ false) (map (entry_of t e) keys)
-  keys-ascend keys are up =
-      Sorted-map (λ (x y : Key). smaller (entry_of t e y).0 (entry_of t e x).0 ≡ false) (λ x y. smaller y.0 x.0 ≡ false) (entry_of t e) (λ x y h. h) keys
-      (Sorted-from-places (λ (x y : Key). smaller (entry_of t e y).0 (entry_of t e x).0 ≡ false) no-key keys (λ i j l m.
-      key-smaller (get_or keys j no-key) (get_or keys i no-key) (Each-get (IsKey t e) keys j no-key m are) (Each-get (IsKey t e) keys i no-key (omega arith) are)
-      ∙ sym (lt-cmp (get_or keys j no-key).number (get_or keys i no-key).number)
-      ∙ sorted_far (λ (x y : Key). is_lt (nat_cmp x.number y.number)) (ranks_by nat_cmp_total (λ (key : Key). key.number)) keys up i j no-key (omega arith) m))
+  -- a number of an entry's coordinates, and its value, are its key
+  pub key-of : (n : ℕ) (key : Key) → n < length e.values → key.number ≡ packed 0 (items_at t.dims t.order) (slice_index_or (stored_as t e).entries n ([], 0)).0
+      → key.value ≡ (slice_index_or (stored_as t e).entries n ([], 0)).1 → Keyed n key
+  key-of n key there number value =
+      let sizes = items_at t.dims t.order in
+      let entry = slice_index_or (stored_as t e).entries n ([], 0) in
+      let all : length (stored_as t e).entries ≡ length e.values = length-stored t e in
+      let fit : (length entry.0 ≡ length sizes) × (within sizes entry.0 ≡ true)
+      = Each-get (λ entry. (length entry.0 ≡ length sizes) × (within sizes entry.0 ≡ true)) (stored_as t e).entries n ([], 0) (omega (arith, all, there)) (entries-fit t e ok fits) in
+      let same : digits sizes key.number ≡ entry.0 = ap (digits sizes) number ∙ digits-packed sizes entry.0 fit.0 fit.1 in
+      record {
+        is_key = record {
+          small = subst (λ (m : ℕ). m < weight sizes) (sym number) (packed-small sizes entry.0 fit.0 fit.1);
+          inside = ap (within sizes) same ∙ fit.1;
+          number = number ∙ ap (packed 0 sizes) (sym same);
+        };
+        entry = pair same value;
+      }
+    where
+      pair : {a b : List ℕ} {v w : ℕ} → a ≡ b → v ≡ w → ◌≡◌ {A = List ℕ × ℕ} (a, v) (b, w)
+      pair f g = cc
 
   -- entries of the tensor that ascend are in order
   pub in-order : (entries : List (List ℕ × ℕ)) → AreInOrder t e entries → InOrder record { formats = t.formats; sizes = items_at t.dims t.order; entries = entries }

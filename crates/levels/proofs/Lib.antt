@@ -1,5 +1,6 @@
 pub mod Ascending
 pub mod ConditionLemmas
+pub mod DigitLemmas
 pub mod EntryLemmas
 pub mod FinalLemmas
 pub mod Growth

@@ -3,7 +3,7 @@ use Rattle.std.proofs.Common.{◌≡◌, [], ◌∷◌, refl}
 use Rattle.sam_model.specs.declared.tensors.Format.TheVariants.{Dense, Compressed}
 use Rattle.sam_model.specs.Tensors.{Stored, stored_prefixes}
 use Rattle.sam_model.specs.Children.{children_of, values_of, ranked}
-use Rattle.levels.specs.Keys.{packed}
+use Rattle.levels.specs.Keys.{packed, weight, digits}
 use Rattle.levels.specs.Rows.{outer}
 
 -- a 2 x 2 tensor with a dense level after a compressed one
@@ -65,3 +65,10 @@ packed-none = refl
 -- two coordinates as one number
 outer-row : outer (1 ∷ 5 ∷ 7 ∷ []) ≡ 4294967301
 outer-row = refl
+
+-- the digits of 63 to the same bases, whose inner two spell 40 numbers
+weight-row : weight (10 ∷ 4 ∷ []) ≡ 40
+weight-row = refl
+
+digits-row : digits (10 ∷ 10 ∷ 4 ∷ []) 63 ≡ 1 ∷ 5 ∷ 3 ∷ []
+digits-row = refl

@@ -7,12 +7,12 @@ ghost use Rattle.std.specs.List.Sorted.{IsPermutation};
 ghost use mathlib.Core.List.{map};
 ghost use Rattle.sam_base.specs.Each.{Each};
 ghost use Rattle.sam_model.specs.Tensors.{stored_as};
-ghost use Rattle.levels.specs.Keys.{IsKey, AreInOrder, entry_of};
+ghost use Rattle.levels.specs.Keys.{IsKey, AreInOrder, AreWeights, key_entry};
 ghost use Rattle.levels.specs.Matches.{IsStorable, Matches};
 ghost use Rattle.levels.specs.Placed.{InOrder};
 ghost use Rattle.levels.specs.Rows.{outer, row_entry, of_rows};
 
-use crate::keys::{Key, sorted_keys};
+use crate::keys::{Key, sorted_keys, weights_of};
 use sam_base::VARIABLES_MOST;
 use sam_model::{Entries, Tensor};
 use std::alloc::{AllocError, Global};
@@ -108,22 +108,40 @@ fn settled_rows(
     Ok(Some(rows))
 }
 
+/// The row of a key: its digits, one for each level.
+fn keyed_row(t: &Tensor, key: Key, weights: &[u64; VARIABLES_MOST]) -> Row
+    requires storable { IsStorable t.now }
+    requires key { IsKey t.now key }
+    requires weights { AreWeights t.now weights.now }
+    ensures { row_entry (length t.now.order) result ≡ key_entry t.now key }
+{
+    let mut rest = key.number;
+    let mut coordinates = [0; VARIABLES_MOST];
+    for level in 0..t.order.len() {
+        coordinates[level] = (rest / weights[level]) as u32;
+        rest %= weights[level];
+    }
+    Row {
+        coordinates,
+        value: key.value,
+    }
+}
+
 /// The rows of these keys.
 fn keyed_rows(
     alloc: Global,
-    entries: &Entries,
     t: &Tensor,
     keys: &[Key],
+    weights: &[u64; VARIABLES_MOST],
 ) -> Result<Vec<Row>, AllocError>
     requires storable { IsStorable t.now }
-    requires matches { Matches t.now entries.now }
-    requires keys { Each (IsKey t.now entries.now) keys.now }
-    requires order { AreInOrder t.now entries.now (map (entry_of t.now entries.now) keys.now) }
-    ensures { IfOk result (λ rows. AreInOrder t.now entries.now (map (row_entry (length t.now.order)) rows.items)) }
+    requires keys { Each (IsKey t.now) keys.now }
+    requires weights { AreWeights t.now weights.now }
+    ensures { IfOk result (λ rows. map (row_entry (length t.now.order)) rows.items ≡ map (key_entry t.now) keys.now) }
 {
     let mut rows = Vec::with_capacity(alloc, keys.len())?;
     for key in keys {
-        rows.push(row_at(entries, t, key.entry))?;
+        rows.push(keyed_row(t, *key, weights))?;
     }
     Ok(rows)
 }
@@ -146,20 +164,39 @@ fn compared_rows(alloc: Global, entries: &Entries, t: &Tensor) -> Result<Vec<Row
     Ok(rows)
 }
 
+/// The rows of all entries by keys, where these fit.
+fn rows_by_keys(
+    alloc: Global,
+    entries: &Entries,
+    t: &Tensor,
+) -> Result<Option<Vec<Row>>, AllocError>
+    requires storable { IsStorable t.now }
+    requires matches { Matches t.now entries.now }
+    ensures { IfOk result (λ found. IfSome found (λ rows. AreInOrder t.now entries.now (map (row_entry (length t.now.order)) rows.items))) }
+{
+    let Some(weights) = weights_of(t) else {
+        return Ok(None);
+    };
+    let Some(keys) = sorted_keys(alloc, entries, t)? else {
+        return Ok(None);
+    };
+    Ok(Some(keyed_rows(alloc, t, keys.as_slice(), &weights)?))
+}
+
 /// The rows of all entries, ascending, where they come in any order: they are sorted by keys where these fit, since a key is moved
-/// and compared in less time than a row. Repeated entries stay in their order.
+/// and compared in less time than a row, and carries all that its row has.
 fn shuffled_rows(alloc: Global, entries: &Entries, t: &Tensor) -> Result<Vec<Row>, AllocError>
     requires storable { IsStorable t.now }
     requires matches { Matches t.now entries.now }
     ensures { IfOk result (λ rows. AreInOrder t.now entries.now (map (row_entry (length t.now.order)) rows.items)) }
 {
-    match sorted_keys(alloc, entries, t)? {
-        Some(keys) => keyed_rows(alloc, entries, t, keys.as_slice()),
+    match rows_by_keys(alloc, entries, t)? {
+        Some(rows) => Ok(rows),
         None => compared_rows(alloc, entries, t),
     }
 }
 
-/// The entries by their coordinates, ascending. Repeated entries stay in their order.
+/// The entries by their coordinates, ascending.
 pub fn sorted_rows(alloc: Global, entries: &Entries, t: &Tensor) -> Result<Vec<Row>, AllocError>
     requires storable { IsStorable t.now }
     requires matches { Matches t.now entries.now }
