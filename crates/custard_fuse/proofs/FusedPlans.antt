@@ -10,7 +10,8 @@ use Rattle.sam_model.specs.declared.program.Term.{Term}
 use Rattle.sam_model.specs.declared.program.Program.{Program}
 use Rattle.sam_model.specs.Lists.{is_in, below}
 use Rattle.sam_model.specs.Denote.{has_var}
-use Rattle.sam_model.specs.Accepted.{accepted, term_fits, factor_fits, is_access, term_has, factor_reduces}
+use Rattle.sam_model.specs.Accepted.{term_fits, factor_fits, is_access, term_has, factor_reduces}
+use Rattle.sam_model.specs.Program.{accepted}
 use Rattle.sam_model.proofs.Orders.{list_all-member}
 use Rattle.stream_model.specs.Fused.{leading_marks, shared_levels}
 use Rattle.stream_model.specs.Labels.{result_sizes}

@@ -36,7 +36,7 @@ term minus factors = record { minus = minus; factors = factors }
 
 abbrev program : List Tensor → Tensor → List ℕ → List Term → List ℕ → Program
 program tensors result left terms sizes =
-    record { tensors = tensors; result = result; left = left; terms = terms; var_names = map (λ _. []) sizes; var_sizes = sizes }
+    record { tensors = tensors; result = result; left = left; terms = terms; tops = []; var_names = map (λ _. []) sizes; var_sizes = sizes }
 
 -- ---- blocks in few words
 
