@@ -1,163 +1,388 @@
 -- What is spelled so is read again.
-use Rattle.std.proofs.Common.{◌≡◌, ℕ, ◌+◌, ◌<◌, ◌≤◌, List, [], ◌∷◌, ◌++◌, length, Bool, true, false, Ok, refl, ap, subst, ◌∙◌, append_assoc, arith, length-append, inl, inr, ◌⊎◌}
-use Rattle.std.specs.List.{AllByRecursion}
+use Rattle.std.proofs.Common.{◌≡◌, ℕ, ◌<◌, ◌≤◌, List, [], ◌∷◌, ◌++◌, length, Bool, true, false, Ok, refl, sym, ap, subst, ◌∙◌}
+use Rattle.std.proofs.Common.{append_assoc, arith, inl, inr, ◌⊎◌}
 use Rattle.std.proofs.lemmas.Bool.{lt-ltb}
+use Rattle.std.proofs.lemmas.List.{append-nil}
 use Rattle.notation.specs.declared.tokens.Token.{Token}
 use Rattle.notation.specs.declared.tokens.Token.TheVariants as t
 use Rattle.notation.specs.declared.tokens.Placed.{Placed}
 use Rattle.notation.specs.declared.statement.AccessText.{AccessText}
-use Rattle.notation.specs.declared.statement.FactorText.{FactorText}
-use Rattle.notation.specs.declared.statement.FactorText.TheVariants as f
-use Rattle.notation.specs.declared.statement.TermText.{TermText}
 use Rattle.notation.specs.declared.statement.Statement.{Statement}
-use Rattle.notation.specs.declared.state.Part.{Part}
+use Rattle.notation.specs.declared.state.Opened.{Opened}
+use Rattle.notation.specs.declared.state.Opened.TheVariants as o
+use Rattle.notation.specs.declared.state.Level.{Level}
+use Rattle.notation.specs.declared.state.Reading.{Reading}
 use Rattle.notation.specs.declared.state.State.{State}
 use Rattle.notation.specs.declared.state.State.TheVariants as s
-use Rattle.notation.specs.Positions.{with_factor, with_var, whole_statement, at_factor, at_operator, step_of, end_of, run, go, named_access, next_term}
-use Rattle.notation.specs.Spelling.{Mark, bare_mark, separated, var, access_marks, factor, factors, sign, terms, FitTerm, Fit, Marked, Spells}
+use Rattle.notation.specs.Trees.{TextTree, Access, Literal, TopTextTree, sum_of}
+use Rattle.notation.specs.Marks.{Mark, bare_mark, placed_mark, separated, var, variables, access_marks, Marked}
+use Rattle.notation.specs.Forms.{FactorForm, TermForm, ExprForm, access, literal, group, sum, one, times, first, more, sign, factor_tree}
+use Rattle.notation.specs.Forms.{term_factors, expr_terms, factor_marks, term_marks, expr_marks, term_count}
+use Rattle.notation.specs.Positions.{with_factor, with_var, opened_level, begun, negated, closed_term, closed_tree, next_term, deeper}
+use Rattle.notation.specs.Positions.{factor_of, whole_statement, named_access}
+use Rattle.notation.specs.Positions.{at_factor, at_operator, step_of, ends, end_of, run, go}
+use Rattle.notation.specs.Spelling.{Spells}
+use Rattle.notation.proofs.OpenForms.{FitsFactor, FitsTerm, FitsExpr, times-parts, more-parts, term_count-is}
 
-one : (end : ℕ) (here there : State) (x : Placed) (xs : List Placed) (token : Token) → x.token ≡ token → step_of here token x.place ≡ Ok there → run end here (x ∷ xs) ≡ run end there xs
+token-read : (end : ℕ) (here there : State) (x : Placed) (xs : List Placed) (token : Token) → x.token ≡ token
+    → step_of here token x.place ≡ Ok there
+    → run end here (x ∷ xs) ≡ run end there xs
 unfolding run go
-one end here there x xs token e h = rw (e, h) refl
+token-read end here there x xs token e h = rw (e, h) refl
+
+-- from one state to another the marks before these are read
+record Goes (end : ℕ) (here : State) (xs : List Placed) (there : State) (ms : List Mark) : Type 0 where
+  rest : List Placed
+  marked : Marked rest ms
+  same : run end here xs ≡ run end there rest
+
+-- a token of which no place is told
+moves : (end : ℕ) (here there : State) (token : Token) (xs : List Placed) (ms : List Mark)
+    → ((place : ℕ) → step_of here token place ≡ Ok there)
+    → Marked xs (bare_mark token ∷ ms) → Goes end here xs there ms
+moves end here there token [] ms e h = absurd h
+moves end here there token (x ∷ xs) ms e h = record {
+  rest = xs;
+  marked = h.1;
+  same =
+      token-read end here there x xs token h.0.0 (e x.place);
+}
+
+-- a token of which the place is told
+moves_at : (end : ℕ) (here : State) (there : ℕ → State) (token : Token) (place : ℕ) (xs : List Placed) (ms : List Mark)
+    → ((p : ℕ) → step_of here token p ≡ Ok (there p)) → Marked xs (placed_mark token place ∷ ms) → Goes end here xs (there place) ms
+moves_at end here there token place [] ms e h = absurd h
+moves_at end here there token place (x ∷ xs) ms e h = record {
+  rest = xs;
+  marked = h.1;
+  same = token-read end here (there x.place) x xs token h.0.0 (e x.place) ∙ ap (λ p. run end (there p) xs) h.0.1;
+}
+
+remark : (xs : List Placed) (ms to : List Mark) → ms ≡ to → Marked xs ms → Marked xs to
+remark xs ms to e h = subst (λ l. Marked xs l) e h
+
+-- ---- variables
 
 abbrev with_vars : AccessText → List (List ℕ) → AccessText
 with_vars a vs = record { name = a.name; vars = a.vars ++ vs; place = a.place }
 
-record Goes (end : ℕ) (here : State) (xs : List Placed) (there : State) (more : List Mark) : Type 0 where
-  rest : List Placed
-  marked : Marked rest more
-  same : run end here xs ≡ run end there rest
-
-vars-again : (V N D : AccessText → State) → ((a : AccessText) (n : List ℕ) (p : ℕ) → step_of (V a) (t.Name n) p ≡ Ok (N (with_var a n))) → ((a : AccessText) (p : ℕ) → step_of (N a) t.Comma p ≡ Ok (V a)) → ((a : AccessText) (p : ℕ) → step_of (N a) t.Close p ≡ Ok (D a))
-    → (end : ℕ) (a : AccessText) (v : List ℕ) (vs : List (List ℕ)) (xs : List Placed) (more : List Mark) → Marked xs (separated (bare_mark t.Comma) var (v ∷ vs) ++ bare_mark t.Close ∷ more) → Goes end (V a) xs (D (with_vars a (v ∷ vs))) more
-vars-again V N D hv hc hd end a v [] [] more h = absurd h
-vars-again V N D hv hc hd end a v [] (x ∷ []) more h = absurd h.1
-vars-again V N D hv hc hd end a v [] (x ∷ y ∷ xs) more h = record {
-  rest = xs;
-  marked = h.1.1;
-  same = one end (V a) (N (with_var a v)) x (y ∷ xs) (t.Name v) h.0.0 (hv a v x.place) ∙ one end (N (with_var a v)) (D (with_var a v)) y xs t.Close h.1.0.0 (hd (with_var a v) y.place);
-}
-vars-again V N D hv hc hd end a v (w ∷ ws) [] more h = absurd h
-vars-again V N D hv hc hd end a v (w ∷ ws) (x ∷ []) more h = absurd h.1
-vars-again V N D hv hc hd end a v (w ∷ ws) (x ∷ y ∷ xs) more h =
-    let r = vars-again V N D hv hc hd end (with_var a v) w ws xs more h.1.1 in
+vars-again : (V N D : AccessText → State) → ((a : AccessText) (n : List ℕ) (p : ℕ) → step_of (V a) (t.Name n) p ≡ Ok (N (with_var a n)))
+    → ((a : AccessText) (p : ℕ) → step_of (N a) t.Comma p ≡ Ok (V a)) → ((a : AccessText) (p : ℕ) → step_of (N a) t.Close p ≡ Ok (D a))
+    → (end : ℕ) (a : AccessText) (v : List ℕ) (vs : List (List ℕ)) (xs : List Placed) (ms : List Mark)
+    → Marked xs (separated (bare_mark t.Comma) var (v ∷ vs) ++ bare_mark t.Close ∷ ms) → Goes end (V a) xs (D (with_vars a (v ∷ vs))) ms
+vars-again V N D hv hc hd end a v [] xs ms h =
+    let p = moves end (V a) (N (with_var a v)) (t.Name v) xs (bare_mark t.Close ∷ ms) (hv a v) h in
+    let q = moves end (N (with_var a v)) (D (with_var a v)) t.Close p.rest ms (hd (with_var a v)) p.marked in
+    record { rest = q.rest; marked = q.marked; same = p.same ∙ q.same }
+vars-again V N D hv hc hd end a v (w ∷ ws) xs ms h =
+    let p = moves end (V a) (N (with_var a v)) (t.Name v) xs
+    (bare_mark t.Comma ∷ (separated (bare_mark t.Comma) var (w ∷ ws) ++ bare_mark t.Close ∷ ms)) (hv a v) h in
+    let q = moves end (N (with_var a v)) (V (with_var a v)) t.Comma p.rest
+    (separated (bare_mark t.Comma) var (w ∷ ws) ++ bare_mark t.Close ∷ ms) (hc (with_var a v)) p.marked in
+    let r = vars-again V N D hv hc hd end (with_var a v) w ws q.rest ms q.marked in
     record {
       rest = r.rest;
       marked = r.marked;
-      same = one end (V a) (N (with_var a v)) x (y ∷ xs) (t.Name v) h.0.0 (hv a v x.place) ∙ one end (N (with_var a v)) (V (with_var a v)) y xs t.Comma h.1.0.0 (hc (with_var a v) y.place) ∙ r.same
-          ∙ ap (λ (vs : List (List ℕ)). run end (D (record { name = a.name; vars = vs; place = a.place })) r.rest) (append_assoc a.vars (v ∷ []) (w ∷ ws));
+      same = p.same ∙ q.same ∙ r.same
+          ∙ ap (λ (us : List (List ℕ)). run end (D (record { name = a.name; vars = us; place = a.place })) r.rest)
+          (append_assoc a.vars (v ∷ []) (w ∷ ws));
     }
 
--- what may stand behind a factor
+-- ---- steps
+
+step-var : (r : Reading) (a : AccessText) (n : List ℕ) (place : ℕ) → step_of (s.Var r a) (t.Name n) place ≡ Ok (s.Next r (with_var a n))
+unfolding step_of
+step-var r a n place = refl
+
+step-comma : (r : Reading) (a : AccessText) (place : ℕ) → step_of (s.Next r a) t.Comma place ≡ Ok (s.Var r a)
+unfolding step_of
+step-comma r a place = refl
+
+step-close : (r : Reading) (a : AccessText) (place : ℕ) → step_of (s.Next r a) t.Close place ≡ Ok (s.Operator (with_factor r (Access a)))
+unfolding step_of
+step-close r a place = refl
+
+step-name : (r : Reading) (n : List ℕ) (place : ℕ) → step_of (s.Factor r) (t.Name n) place ≡ Ok (s.Named r (named_access n place))
+unfolding step_of at_factor
+step-name r n place = refl
+
+step-number : (r : Reading) (n place : ℕ) → step_of (s.Factor r) (t.Number n) place ≡ Ok (s.Operator (with_factor r (Literal n)))
+unfolding step_of at_factor
+step-number r n place = refl
+
+step-open : (r : Reading) (a : AccessText) (place : ℕ) → step_of (s.Named r a) t.Open place ≡ Ok (s.Var r a)
+unfolding step_of
+step-open r a place = refl
+
+step-group : (r : Reading) (place : ℕ) → length r.outer < 32 → step_of (s.Factor r) t.Open place ≡ Ok (s.First (deeper r o.Parenthesis))
+unfolding step_of at_factor
+step-group r place lt = rw (lt-ltb _ _ lt) refl
+
+step-sum : (r : Reading) (place : ℕ) → step_of (s.Factor r) t.Sum place ≡ Ok (s.SumOpen r place)
+unfolding step_of at_factor
+step-sum r place = refl
+
+step-sum_open : (r : Reading) (begin place : ℕ) → length r.outer < 32 → step_of (s.SumOpen r begin) t.Open place ≡ Ok (s.SumVar r begin)
+unfolding step_of
+step-sum_open r begin place lt = rw (lt-ltb _ _ lt) refl
+
+step-sum_var : (r : Reading) (begin : ℕ) (n : List ℕ) (place : ℕ) → step_of (s.SumVar r begin) (t.Name n) place ≡ Ok (s.SumComma r begin n)
+unfolding step_of
+step-sum_var r begin n place = refl
+
+step-sum_comma : (r : Reading) (begin : ℕ) (n : List ℕ) (place : ℕ)
+    → step_of (s.SumComma r begin n) t.Comma place ≡ Ok (s.First (deeper r (o.Sum n begin)))
+unfolding step_of
+step-sum_comma r begin n place = refl
+
+step-closed : (r : Reading) (level : Level) (place : ℕ)
+    → step_of (s.Operator (record { left = r.left; outer = r.level ∷ r.outer; level = level })) t.Close place
+    ≡ Ok (s.Operator (with_factor r (closed_tree level)))
+unfolding step_of at_operator
+step-closed r level place = refl
+
+step-star : (r : Reading) (place : ℕ) → length r.level.factors < 8 → step_of (s.Operator r) t.Star place ≡ Ok (s.Factor r)
+unfolding step_of at_operator
+step-star r place lt = rw (lt-ltb _ _ lt) refl
+
+step-minus : (r : Reading) (place : ℕ) → step_of (s.First r) t.Minus place ≡ Ok (s.Factor (negated r))
+unfolding step_of
+step-minus r place = refl
+
+step-less : (r : Reading) (place : ℕ) → length r.level.terms < 15 → step_of (s.Operator r) t.Minus place ≡ Ok (s.Factor (next_term r true))
+unfolding step_of at_operator
+step-less r place lt = rw (lt-ltb _ _ lt) refl
+
+step-plus : (r : Reading) (place : ℕ) → length r.level.terms < 15 → step_of (s.Operator r) t.Plus place ≡ Ok (s.Factor (next_term r false))
+unfolding step_of at_operator
+step-plus r place lt = rw (lt-ltb _ _ lt) refl
+
+-- ---- what may stand behind a factor
+
 abbrev EndsFactor : List Mark → Type 0
 EndsFactor [] = Unit {0}
-EndsFactor (m ∷ ms) = (m.token ≡ t.Star) ⊎ ((m.token ≡ t.Plus) ⊎ (m.token ≡ t.Minus))
+EndsFactor (m ∷ ms) = (m.token ≡ t.Star) ⊎ ((m.token ≡ t.Plus) ⊎ ((m.token ≡ t.Minus) ⊎ (m.token ≡ t.Close)))
 
-settles : (end : ℕ) (p : Part) (a : AccessText) (xs : List Placed) (more : List Mark) → Marked xs more → EndsFactor more → run end (s.Named p a) xs ≡ run end (s.Operator (with_factor p (f.Access a))) xs
+sign_ends : (minus : Bool) (ms : List Mark) → EndsFactor (sign minus ∷ ms)
+sign_ends true ms = inr (inr (inl refl))
+sign_ends false ms = inr (inl refl)
+
+close_ends : (ms : List Mark) → EndsFactor (bare_mark t.Close ∷ ms)
+close_ends ms = inr (inr (inr refl))
+
+-- a name with no variables, behind which stands what may stand behind a factor
+settles : (end : ℕ) (r : Reading) (a : AccessText) (xs : List Placed) (ms : List Mark) → Marked xs ms → EndsFactor ms
+    → run end (s.Named r a) xs ≡ run end (s.Operator (with_factor r (Access a))) xs
 unfolding run go step_of end_of
-settles end p a [] more h e = refl
-settles end p a (x ∷ xs) [] h e = absurd h
-settles end p a (x ∷ xs) (m ∷ ms) h (inl e) = rw (h.0.0, e) refl
-settles end p a (x ∷ xs) (m ∷ ms) h (inr (inl e)) = rw (h.0.0, e) refl
-settles end p a (x ∷ xs) (m ∷ ms) h (inr (inr e)) = rw (h.0.0, e) refl
+settles end r a [] ms h e = refl
+settles end r a (x ∷ xs) [] h e = absurd h
+settles end r a (x ∷ xs) (m ∷ ms) h (inl e) = rw (h.0.0, e) refl
+settles end r a (x ∷ xs) (m ∷ ms) h (inr (inl e)) = rw (h.0.0, e) refl
+settles end r a (x ∷ xs) (m ∷ ms) h (inr (inr (inl e))) = rw (h.0.0, e) refl
+settles end r a (x ∷ xs) (m ∷ ms) h (inr (inr (inr e))) = rw (h.0.0, e) refl
 
-step-var : (p : Part) (a : AccessText) (n : List ℕ) (place : ℕ) → step_of (s.Var p a) (t.Name n) place ≡ Ok (s.Next p (with_var a n))
-unfolding step_of
-step-var p a n place = refl
+access-again : (end : ℕ) (r : Reading) (n : List ℕ) (vs : List (List ℕ)) (place : ℕ) (xs : List Placed) (ms : List Mark)
+    → let a : AccessText = record { name = n; vars = vs; place = place } in
+    Marked xs (access_marks a ++ ms) → EndsFactor ms → Goes end (s.Factor r) xs (s.Operator (with_factor r (Access a))) ms
+access-again end r n [] place xs ms h e =
+    let p = moves_at end (s.Factor r) (λ k. s.Named r (named_access n k)) (t.Name n) place xs ms (step-name r n) h in
+    record { rest = p.rest; marked = p.marked; same = p.same ∙ settles end r (named_access n place) p.rest ms p.marked e }
+access-again end r n (v ∷ vs) place xs ms h e =
+    let p = moves_at end (s.Factor r) (λ k. s.Named r (named_access n k)) (t.Name n) place xs (variables (v ∷ vs) ++ ms)
+    (step-name r n) h in
+    let q = moves end (s.Named r (named_access n place)) (s.Var r (named_access n place)) t.Open p.rest
+    ((separated (bare_mark t.Comma) var (v ∷ vs) ++ bare_mark t.Close ∷ []) ++ ms) (step-open r (named_access n place)) p.marked in
+    let m = remark q.rest ((separated (bare_mark t.Comma) var (v ∷ vs) ++ bare_mark t.Close ∷ []) ++ ms)
+    (separated (bare_mark t.Comma) var (v ∷ vs) ++ bare_mark t.Close ∷ ms)
+    (append_assoc (separated (bare_mark t.Comma) var (v ∷ vs)) (bare_mark t.Close ∷ []) ms) q.marked in
+    let d = vars-again (s.Var r) (s.Next r) (λ a. s.Operator (with_factor r (Access a))) (step-var r) (step-comma r) (step-close r) end
+    (named_access n place) v vs q.rest ms m in
+    record { rest = d.rest; marked = d.marked; same = p.same ∙ q.same ∙ d.same }
 
-step-comma : (p : Part) (a : AccessText) (place : ℕ) → step_of (s.Next p a) t.Comma place ≡ Ok (s.Var p a)
-unfolding step_of
-step-comma p a place = refl
+-- ---- factors, terms and expressions
 
-step-close : (p : Part) (a : AccessText) (place : ℕ) → step_of (s.Next p a) t.Close place ≡ Ok (s.Operator (with_factor p (f.Access a)))
-unfolding step_of
-step-close p a place = refl
+-- an expression as far as these terms and factors
+abbrev read_to : AccessText → List Level → Opened → List TopTextTree → Bool → List TextTree → Reading
+read_to left outer opened terms minus factors =
+    record { left = left; outer = outer; level = record { opened = opened; terms = terms; minus = minus; factors = factors } }
 
-step-name : (p : Part) (n : List ℕ) (place : ℕ) → step_of (s.Factor p) (t.Name n) place ≡ Ok (s.Named p (named_access n place))
-unfolding step_of at_factor
-step-name p n place = refl
+-- an expression as far as its last factor
+abbrev ended : AccessText → List Level → Opened → ExprForm → Reading
+ended left outer opened (first minus x) = read_to left outer opened [] minus (term_factors x)
+ended left outer opened (more e minus x) = read_to left outer opened (expr_terms e) minus (term_factors x)
 
-step-number : (p : Part) (n place : ℕ) → step_of (s.Factor p) (t.Number n) place ≡ Ok (s.Operator (with_factor p (f.Literal n)))
-unfolding step_of at_factor
-step-number p n place = refl
+ended-terms : (left : AccessText) (outer : List Level) (opened : Opened) (e : ExprForm)
+    → closed_term (ended left outer opened e).level ≡ expr_terms e
+ended-terms left outer opened (first minus x) = refl
+ended-terms left outer opened (more e minus x) = refl
 
-step-open : (p : Part) (a : AccessText) (place : ℕ) → step_of (s.Named p a) t.Open place ≡ Ok (s.Var p a)
-unfolding step_of
-step-open p a place = refl
+ended-within : (left : AccessText) (outer : List Level) (opened : Opened) (e : ExprForm)
+    → ended left outer opened e ≡ record { left = left; outer = outer; level = (ended left outer opened e).level }
+ended-within left outer opened (first minus x) = refl
+ended-within left outer opened (more e minus x) = refl
 
-named : (end : ℕ) (p : Part) (n : List ℕ) (place : ℕ) (x : Placed) (xs : List Placed) → x.token ≡ t.Name n → x.place ≡ place → run end (s.Factor p) (x ∷ xs) ≡ run end (s.Named p (named_access n place)) xs
-named end p n place x xs e h = one end (s.Factor p) (s.Named p (named_access n x.place)) x xs (t.Name n) e (step-name p n x.place) ∙ ap (λ k. run end (s.Named p (named_access n k)) xs) h
+ended-tree : (left : AccessText) (outer : List Level) (opened : Opened) (e : ExprForm)
+    → closed_tree (ended left outer opened e).level ≡ factor_of opened (sum_of (expr_terms e))
+ended-tree left outer opened (first minus x) = refl
+ended-tree left outer opened (more e minus x) = refl
 
-access-again : (end : ℕ) (p : Part) (n : List ℕ) (vs : List (List ℕ)) (place : ℕ) (xs : List Placed) (more : List Mark) → let a : AccessText = record { name = n; vars = vs; place = place } in Marked xs (access_marks a ++ more) → EndsFactor more → Goes end (s.Factor p) xs (s.Operator (with_factor p (f.Access a))) more
-access-again end p n vs place [] more h e = absurd h
-access-again end p n [] place (x ∷ xs) more h e = record { rest = xs; marked = h.1; same = named end p n place x xs h.0.0 h.0.1 ∙ settles end p (named_access n place) xs more h.1 e }
-access-again end p n (v ∷ vs) place (x ∷ []) more h e = absurd h.1
-access-again end p n (v ∷ vs) place (x ∷ y ∷ xs) more h e =
-    let m : Marked xs (separated (bare_mark t.Comma) var (v ∷ vs) ++ bare_mark t.Close ∷ more) = subst (λ ms. Marked xs ms) (append_assoc (separated (bare_mark t.Comma) var (v ∷ vs)) (bare_mark t.Close ∷ []) more) h.1.1 in
-    let r = vars-again (s.Var p) (s.Next p) (λ a. s.Operator (with_factor p (f.Access a))) (step-var p) (step-comma p) (step-close p) end (named_access n place) v vs xs more m in
-    record { rest = r.rest; marked = r.marked; same = named end p n place x (y ∷ xs) h.0.0 h.0.1 ∙ one end (s.Named p (named_access n place)) (s.Var p (named_access n place)) y xs t.Open h.1.0.0 (step-open p (named_access n place) y.place) ∙ r.same }
+ended-few : (left : AccessText) (outer : List Level) (opened : Opened) (e : ExprForm) → term_count e ≤ 15
+    → length (ended left outer opened e).level.terms < 15
+ended-few left outer opened (first minus x) h = omega arith
+ended-few left outer opened (more e minus x) h = let n = term_count-is e in omega (arith, n, h)
 
-factor-again : (end : ℕ) (p : Part) (x : FactorText) (xs : List Placed) (more : List Mark) → Marked xs (factor x ++ more) → EndsFactor more → Goes end (s.Factor p) xs (s.Operator (with_factor p x)) more
-factor-again end p (f.Access a) xs more h e = access-again end p a.name a.vars a.place xs more h e
-factor-again end p (f.Literal n) [] more h e = absurd h
-factor-again end p (f.Literal n) (x ∷ xs) more h e = record { rest = xs; marked = h.1; same = one end (s.Factor p) (s.Operator (with_factor p (f.Literal n))) x xs (t.Number n) h.0.0 (step-number p n x.place) }
+ended-next : (left : AccessText) (outer : List Level) (opened : Opened) (e : ExprForm) (minus : Bool)
+    → next_term (ended left outer opened e) minus ≡ read_to left outer opened (expr_terms e) minus []
+ended-next left outer opened (first m x) minus = refl
+ended-next left outer opened (more e m x) minus = refl
 
-step-star : (p : Part) (place : ℕ) → length p.factors < 8 → step_of (s.Operator p) t.Star place ≡ Ok (s.Factor p)
-unfolding step_of at_operator
-step-star p place lt = rw (lt-ltb _ _ lt) refl
+-- the sign before a term
+next_sign : (end : ℕ) (r : Reading) (minus : Bool) (xs : List Placed) (ms : List Mark) → length r.level.terms < 15
+    → Marked xs (sign minus ∷ ms)
+    → Goes end (s.Operator r) xs (s.Factor (next_term r minus)) ms
+next_sign end r true xs ms lt h = moves end (s.Operator r) (s.Factor (next_term r true)) t.Minus xs ms (λ p. step-less r p lt) h
+next_sign end r false xs ms lt h = moves end (s.Operator r) (s.Factor (next_term r false)) t.Plus xs ms (λ p. step-plus r p lt) h
 
-abbrev with_all : Part → List FactorText → Part
-with_all p xs = record { left = p.left; terms = p.terms; minus = p.minus; factors = p.factors ++ xs }
+-- an expression that begins with no sign begins with a factor
+plain_factor : (end : ℕ) (r : Reading) (f : FactorForm) (xs : List Placed) (ms : List Mark) → Marked xs (factor_marks f ++ ms)
+    → run end (s.First r) xs ≡ run end (s.Factor r) xs
+unfolding run go step_of
+plain_factor end r (access a) [] ms h = absurd h
+plain_factor end r (literal n) [] ms h = absurd h
+plain_factor end r (group e) [] ms h = absurd h
+plain_factor end r (sum v place e) [] ms h = absurd h
+plain_factor end r (access a) (x ∷ xs) ms h = rw h.0.0 refl
+plain_factor end r (literal n) (x ∷ xs) ms h = rw h.0.0 refl
+plain_factor end r (group e) (x ∷ xs) ms h = rw h.0.0 refl
+plain_factor end r (sum v place e) (x ∷ xs) ms h = rw h.0.0 refl
 
-star : (end : ℕ) (p : Part) (xs : List Placed) (more : List Mark) → length p.factors < 8 → Marked xs (bare_mark t.Star ∷ more) → Goes end (s.Operator p) xs (s.Factor p) more
-star end p [] more lt h = absurd h
-star end p (x ∷ xs) more lt h = record { rest = xs; marked = h.1; same = one end (s.Operator p) (s.Factor p) x xs t.Star h.0.0 (step-star p x.place lt) }
+plain_term : (end : ℕ) (r : Reading) (x : TermForm) (xs : List Placed) (ms : List Mark) → Marked xs (term_marks x ++ ms)
+    → run end (s.First r) xs ≡ run end (s.Factor r) xs
+plain_term end r (one f) xs ms h = plain_factor end r f xs ms h
+plain_term end r (times x f) xs ms h =
+    plain_term end r x xs (bare_mark t.Star ∷ (factor_marks f ++ ms))
+    (remark xs ((term_marks x ++ bare_mark t.Star ∷ factor_marks f) ++ ms) (term_marks x ++ bare_mark t.Star ∷ (factor_marks f ++ ms))
+    (append_assoc (term_marks x) (bare_mark t.Star ∷ factor_marks f) ms) h)
 
-factors-again : (end : ℕ) (p : Part) (y : FactorText) (ys : List FactorText) (xs : List Placed) (more : List Mark) → length p.factors + (length ys + 1) ≤ 8 → Marked xs (factors (y ∷ ys) ++ more) → EndsFactor more → Goes end (s.Factor p) xs (s.Operator (with_all p (y ∷ ys))) more
-factors-again end p y [] xs more fits h e = factor-again end p y xs more h e
-factors-again end p y (z ∷ zs) xs more fits h e =
-    let m : Marked xs (factor y ++ (bare_mark t.Star ∷ (factors (z ∷ zs) ++ more))) = subst (λ ms. Marked xs ms) (append_assoc (factor y) (bare_mark t.Star ∷ factors (z ∷ zs)) more) h in
-    let a = factor-again end p y xs (bare_mark t.Star ∷ (factors (z ∷ zs) ++ more)) m (inl refl) in
-    let b = star end (with_factor p y) a.rest (factors (z ∷ zs) ++ more) (omega (arith, fits, length-append p.factors (y ∷ []))) a.marked in
-    let c = factors-again end (with_factor p y) z zs b.rest more (omega (arith, fits, length-append p.factors (y ∷ []))) b.marked e in
-    record { rest = c.rest; marked = c.marked; same = a.same ∙ b.same ∙ c.same ∙ ap (λ (fs : List FactorText). run end (s.Operator (record { left = p.left; terms = p.terms; minus = p.minus; factors = fs })) c.rest) (append_assoc p.factors (y ∷ []) (z ∷ zs)) }
+-- behind the `)` of an expression
+closed : (end : ℕ) (r : Reading) (opened : Opened) (e : ExprForm) (xs : List Placed) (ms : List Mark) → Marked xs (bare_mark t.Close ∷ ms)
+    → Goes end (s.Operator (ended r.left (r.level ∷ r.outer) opened e)) xs
+    (s.Operator (with_factor r (factor_of opened (sum_of (expr_terms e))))) ms
+closed end r opened e xs ms h =
+    let l : Level = (ended r.left (r.level ∷ r.outer) opened e).level in
+    let p = moves end (s.Operator (record { left = r.left; outer = r.level ∷ r.outer; level = l }))
+    (s.Operator (with_factor r (closed_tree l))) t.Close xs ms (step-closed r l) h in
+    record {
+      rest = p.rest;
+      marked = p.marked;
+      same = ap (λ (q : Reading). run end (s.Operator q) xs) (ended-within r.left (r.level ∷ r.outer) opened e) ∙ p.same
+          ∙ ap (λ (tree : TextTree). run end (s.Operator (with_factor r tree)) p.rest) (ended-tree r.left (r.level ∷ r.outer) opened e);
+    }
 
-next_sign : (end : ℕ) (p : Part) (minus : Bool) (xs : List Placed) (more : List Mark) → length p.terms < 15 → Marked xs (sign false minus ++ more) → Goes end (s.Operator p) xs (s.Factor (next_term p minus)) more
-unfolding step_of at_operator
-next_sign end p true [] more lt h = absurd h
-next_sign end p false [] more lt h = absurd h
-next_sign end p true (x ∷ xs) more lt h = record { rest = xs; marked = h.1; same = one end (s.Operator p) (s.Factor (next_term p true)) x xs t.Minus h.0.0 (rw (lt-ltb _ _ lt) refl) }
-next_sign end p false (x ∷ xs) more lt h = record { rest = xs; marked = h.1; same = one end (s.Operator p) (s.Factor (next_term p false)) x xs t.Plus h.0.0 (rw (lt-ltb _ _ lt) refl) }
+group-fits : (l : Level) (ls : List Level) (e : ExprForm) → FitsFactor (length ls) (group e) → FitsExpr (length (l ∷ ls)) e
+group-fits l ls e h = let n = h.shallow in record { fits = h.fits; shallow = omega (arith, n) }
 
-sign_ends : (minus : Bool) (more : List Mark) → EndsFactor (sign false minus ++ more)
-sign_ends true more = inr (inr refl)
-sign_ends false more = inr (inl refl)
+group-room : (ls : List Level) (e : ExprForm) → FitsFactor (length ls) (group e) → length ls < 32
+group-room ls e h = let n = h.shallow in omega (arith, n)
 
-terms_end : (xs : List TermText) → EndsFactor (terms false xs)
-terms_end [] = tt
-terms_end (x ∷ xs) = sign_ends x.minus (factors x.factors ++ terms false xs)
+mutual
+  factor-again : (f : FactorForm) (end : ℕ) (r : Reading) (xs : List Placed) (ms : List Mark) → FitsFactor (length r.outer) f
+      → Marked xs (factor_marks f ++ ms) → EndsFactor ms
+      → Goes end (s.Factor r) xs (s.Operator (with_factor r (factor_tree f))) ms
+  factor-again (access a) end r xs ms fits h ends = access-again end r a.name a.vars a.place xs ms h ends
+  factor-again (literal n) end r xs ms fits h ends = moves end (s.Factor r) (s.Operator (with_factor r (Literal n))) (t.Number n) xs ms
+      (step-number r n) h
+  factor-again (group e) end r xs ms fits h ends =
+      let p = moves end (s.Factor r) (s.First (deeper r o.Parenthesis)) t.Open xs ((expr_marks e ++ bare_mark t.Close ∷ []) ++ ms)
+      (λ k. step-group r k (group-room r.outer e fits)) h in
+      let m = remark p.rest ((expr_marks e ++ bare_mark t.Close ∷ []) ++ ms) (expr_marks e ++ bare_mark t.Close ∷ ms)
+      (append_assoc (expr_marks e) (bare_mark t.Close ∷ []) ms) p.marked in
+      let q = expr-again e end r.left (r.level ∷ r.outer) o.Parenthesis p.rest (bare_mark t.Close ∷ ms)
+      (group-fits r.level r.outer e fits) m (close_ends ms) in
+      let d = closed end r o.Parenthesis e q.rest ms q.marked in
+      record { rest = d.rest; marked = d.marked; same = p.same ∙ q.same ∙ d.same }
+  factor-again (sum v place e) end r xs ms fits h ends =
+      let inner : FitsFactor (length r.outer) (group e) = record { fits = fits.fits; shallow = fits.shallow } in
+      let to = (expr_marks e ++ bare_mark t.Close ∷ []) ++ ms in
+      let p = moves_at end (s.Factor r) (λ k. s.SumOpen r k) t.Sum place xs
+      (bare_mark t.Open ∷ bare_mark (t.Name v) ∷ bare_mark t.Comma ∷ to) (step-sum r) h in
+      let a = moves end (s.SumOpen r place) (s.SumVar r place) t.Open p.rest (bare_mark (t.Name v) ∷ bare_mark t.Comma ∷ to)
+      (λ k. step-sum_open r place k (group-room r.outer e inner)) p.marked in
+      let b = moves end (s.SumVar r place) (s.SumComma r place v) (t.Name v) a.rest (bare_mark t.Comma ∷ to)
+      (step-sum_var r place v) a.marked in
+      let c = moves end (s.SumComma r place v) (s.First (deeper r (o.Sum v place))) t.Comma b.rest to (step-sum_comma r place v) b.marked in
+      let m = remark c.rest to (expr_marks e ++ bare_mark t.Close ∷ ms)
+      (append_assoc (expr_marks e) (bare_mark t.Close ∷ []) ms) c.marked in
+      let q = expr-again e end r.left (r.level ∷ r.outer) (o.Sum v place) c.rest (bare_mark t.Close ∷ ms)
+      (group-fits r.level r.outer e inner) m (close_ends ms) in
+      let d = closed end r (o.Sum v place) e q.rest ms q.marked in
+      record { rest = d.rest; marked = d.marked; same = p.same ∙ a.same ∙ b.same ∙ c.same ∙ q.same ∙ d.same }
 
-term-again : (end : ℕ) (p : Part) (fs : List FactorText) (xs : List Placed) (more : List Mark) → 0 < length fs → length p.factors + length fs ≤ 8 → Marked xs (factors fs ++ more) → EndsFactor more → Goes end (s.Factor p) xs (s.Operator (with_all p fs)) more
-term-again end p [] xs more some fits h e = absurd (omega (arith, some))
-term-again end p (y ∷ ys) xs more some fits h e = factors-again end p y ys xs more (omega (arith, fits)) h e
+  term-again : (x : TermForm) (end : ℕ) (left : AccessText) (outer : List Level) (opened : Opened) (terms : List TopTextTree)
+      (minus : Bool) (xs : List Placed) (ms : List Mark)
+      → FitsTerm (length outer) x → Marked xs (term_marks x ++ ms) → EndsFactor ms
+      → Goes end (s.Factor (read_to left outer opened terms minus [])) xs
+      (s.Operator (read_to left outer opened terms minus (term_factors x))) ms
+  term-again (one f) end left outer opened terms minus xs ms fits h ends =
+      factor-again f end (read_to left outer opened terms minus []) xs ms (record { fits = fits.fits; shallow = fits.shallow }) h ends
+  term-again (times x f) end left outer opened terms minus xs ms fits h ends =
+      let parts = times-parts (length outer) x f fits in
+      let r : Reading = read_to left outer opened terms minus (term_factors x) in
+      let m = remark xs ((term_marks x ++ bare_mark t.Star ∷ factor_marks f) ++ ms)
+      (term_marks x ++ bare_mark t.Star ∷ (factor_marks f ++ ms))
+      (append_assoc (term_marks x) (bare_mark t.Star ∷ factor_marks f) ms) h in
+      let p = term-again x end left outer opened terms minus xs (bare_mark t.Star ∷ (factor_marks f ++ ms)) parts.term m (inl refl) in
+      let q = moves end (s.Operator r) (s.Factor r) t.Star p.rest (factor_marks f ++ ms) (λ k. step-star r k parts.few) p.marked in
+      let d = factor-again f end r q.rest ms parts.factor q.marked ends in
+      record { rest = d.rest; marked = d.marked; same = p.same ∙ q.same ∙ d.same }
 
-ended : (end : ℕ) (p : Part) (xs : List Placed) → Marked xs [] → run end (s.Operator p) xs ≡ Ok (whole_statement p)
+  expr-again : (e : ExprForm) (end : ℕ) (left : AccessText) (outer : List Level) (opened : Opened) (xs : List Placed) (ms : List Mark)
+      → FitsExpr (length outer) e → Marked xs (expr_marks e ++ ms) → EndsFactor ms
+      → Goes end (s.First (record { left = left; outer = outer; level = opened_level opened })) xs
+      (s.Operator (ended left outer opened e)) ms
+  expr-again (first true x) end left outer opened xs ms fits h ends =
+      let r : Reading = record { left = left; outer = outer; level = opened_level opened } in
+      let p = moves end (s.First r) (s.Factor (negated r)) t.Minus xs (term_marks x ++ ms) (step-minus r) h in
+      let q = term-again x end left outer opened [] true p.rest ms (record { fits = fits.fits; shallow = fits.shallow }) p.marked ends in
+      record { rest = q.rest; marked = q.marked; same = p.same ∙ q.same }
+  expr-again (first false x) end left outer opened xs ms fits h ends =
+      let r : Reading = record { left = left; outer = outer; level = opened_level opened } in
+      let q = term-again x end left outer opened [] false xs ms (record { fits = fits.fits; shallow = fits.shallow }) h ends in
+      record { rest = q.rest; marked = q.marked; same = plain_term end r x xs ms h ∙ q.same }
+  expr-again (more e minus x) end left outer opened xs ms fits h ends =
+      let parts = more-parts (length outer) e minus x fits in
+      let m = remark xs ((expr_marks e ++ sign minus ∷ term_marks x) ++ ms) (expr_marks e ++ sign minus ∷ (term_marks x ++ ms))
+      (append_assoc (expr_marks e) (sign minus ∷ term_marks x) ms) h in
+      let p = expr-again e end left outer opened xs (sign minus ∷ (term_marks x ++ ms)) parts.form m
+      (sign_ends minus (term_marks x ++ ms)) in
+      let q = next_sign end (ended left outer opened e) minus p.rest (term_marks x ++ ms)
+      (ended-few left outer opened e parts.few) p.marked in
+      let d = term-again x end left outer opened (expr_terms e) minus q.rest ms parts.term q.marked ends in
+      record {
+        rest = d.rest;
+        marked = d.marked;
+        same = p.same ∙ q.same ∙ ap (λ (r : Reading). run end (s.Factor r) q.rest) (ended-next left outer opened e minus) ∙ d.same;
+      }
+
+-- ---- whole statements
+
+ends-whole : (r : Reading) (ls : List Level) (end : ℕ) → ls ≡ [] → ends r ls end ≡ Ok (whole_statement r)
+ends-whole r [] end e = refl
+ends-whole r (l ∷ ls) end e = absurd cc
+
+whole : (end : ℕ) (r : Reading) (xs : List Placed) → r.outer ≡ [] → Marked xs [] → run end (s.Operator r) xs ≡ Ok (whole_statement r)
 unfolding run end_of
-ended end p [] h = refl
-ended end p (x ∷ xs) h = absurd h
+whole end r [] e h = ends-whole r r.outer end e
+whole end r (x ∷ xs) e h = absurd h
 
-abbrev begun : AccessText → List TermText → Bool → Part
-begun left done minus = record { left = left; terms = done; minus = minus; factors = [] }
+ended-outer : (left : AccessText) (opened : Opened) (e : ExprForm) → (ended left [] opened e).outer ≡ []
+ended-outer left opened (first minus x) = refl
+ended-outer left opened (more e minus x) = refl
 
-terms-again : (end : ℕ) (left : AccessText) (done : List TermText) (x : TermText) (xs : List TermText) (ts : List Placed) → length done + (length xs + 1) ≤ 16 → FitTerm x → AllByRecursion FitTerm xs → Marked ts (factors x.factors ++ terms false xs) → run end (s.Factor (begun left done x.minus)) ts ≡ Ok (record { left = left; terms = done ++ x ∷ xs })
-terms-again end left done x [] ts fits fx fxs h =
-    let a = term-again end (begun left done x.minus) x.factors ts [] fx.some (omega (arith, fx.few)) h tt in
-    a.same ∙ ended end (with_all (begun left done x.minus) x.factors) a.rest a.marked
-terms-again end left done x (y ∷ ys) ts fits fx fxs h =
-    let a = term-again end (begun left done x.minus) x.factors ts (terms false (y ∷ ys)) fx.some (omega (arith, fx.few)) h (terms_end (y ∷ ys)) in
-    let b = next_sign end (with_all (begun left done x.minus) x.factors) y.minus a.rest (factors y.factors ++ terms false ys) (omega (arith, fits)) a.marked in
-    let c = terms-again end left (done ++ x ∷ []) y ys b.rest (omega (arith, fits, length-append done (x ∷ []))) fxs.0 fxs.1 b.marked in
-    a.same ∙ b.same ∙ c ∙ ap (λ (zs : List TermText). Ok (record { left = left; terms = zs })) (append_assoc done (x ∷ []) (y ∷ ys))
+ended-whole : (left : AccessText) (opened : Opened) (e : ExprForm)
+    → whole_statement (ended left [] opened e) ≡ record { left = left; tops = expr_terms e }
+ended-whole left opened (first minus x) = refl
+ended-whole left opened (more e minus x) = refl
 
 left-var : (a : AccessText) (n : List ℕ) (place : ℕ) → step_of (s.LeftVar a) (t.Name n) place ≡ Ok (s.LeftNext (with_var a n))
 unfolding step_of
@@ -175,11 +400,11 @@ left-open : (a : AccessText) (place : ℕ) → step_of (s.LeftName a) t.Open pla
 unfolding step_of
 left-open a place = refl
 
-left-none : (a : AccessText) (place : ℕ) → step_of (s.LeftName a) t.Equals place ≡ Ok (s.First a)
+left-none : (a : AccessText) (place : ℕ) → step_of (s.LeftName a) t.Equals place ≡ Ok (s.First (begun a))
 unfolding step_of
 left-none a place = refl
 
-left-done : (a : AccessText) (place : ℕ) → step_of (s.LeftDone a) t.Equals place ≡ Ok (s.First a)
+left-done : (a : AccessText) (place : ℕ) → step_of (s.LeftDone a) t.Equals place ≡ Ok (s.First (begun a))
 unfolding step_of
 left-done a place = refl
 
@@ -187,52 +412,34 @@ starts : (n : List ℕ) (place : ℕ) → step_of s.Start (t.Name n) place ≡ O
 unfolding step_of
 starts n place = refl
 
-left-name : (end : ℕ) (n : List ℕ) (place : ℕ) (x : Placed) (xs : List Placed) → x.token ≡ t.Name n → x.place ≡ place → run end s.Start (x ∷ xs) ≡ run end (s.LeftName (named_access n place)) xs
-left-name end n place x xs e h = one end s.Start (s.LeftName (named_access n x.place)) x xs (t.Name n) e (starts n x.place) ∙ ap (λ k. run end (s.LeftName (named_access n k)) xs) h
-
-equals : (end : ℕ) (here : State) (a : AccessText) (xs : List Placed) (more : List Mark) → ((place : ℕ) → step_of here t.Equals place ≡ Ok (s.First a)) → Marked xs (bare_mark t.Equals ∷ more) → Goes end here xs (s.First a) more
-equals end here a [] more e h = absurd h
-equals end here a (x ∷ xs) more e h = record { rest = xs; marked = h.1; same = one end here (s.First a) x xs t.Equals h.0.0 (e x.place) }
-
-left-again : (end : ℕ) (n : List ℕ) (vs : List (List ℕ)) (place : ℕ) (xs : List Placed) (more : List Mark) → let a : AccessText = record { name = n; vars = vs; place = place } in Marked xs (access_marks a ++ bare_mark t.Equals ∷ more) → Goes end s.Start xs (s.First a) more
-left-again end n vs place [] more h = absurd h
-left-again end n [] place (x ∷ xs) more h =
-    let r = equals end (s.LeftName (named_access n place)) (named_access n place) xs more (left-none (named_access n place)) h.1 in
-    record { rest = r.rest; marked = r.marked; same = left-name end n place x xs h.0.0 h.0.1 ∙ r.same }
-left-again end n (v ∷ vs) place (x ∷ []) more h = absurd h.1
-left-again end n (v ∷ vs) place (x ∷ y ∷ xs) more h =
-    let m : Marked xs (separated (bare_mark t.Comma) var (v ∷ vs) ++ bare_mark t.Close ∷ bare_mark t.Equals ∷ more) = subst (λ ms. Marked xs ms) (append_assoc (separated (bare_mark t.Comma) var (v ∷ vs)) (bare_mark t.Close ∷ []) (bare_mark t.Equals ∷ more)) h.1.1 in
-    let r = vars-again s.LeftVar s.LeftNext s.LeftDone left-var left-comma left-close end (named_access n place) v vs xs (bare_mark t.Equals ∷ more) m in
-    let q = equals end (s.LeftDone (with_vars (named_access n place) (v ∷ vs))) (with_vars (named_access n place) (v ∷ vs)) r.rest more (left-done (with_vars (named_access n place) (v ∷ vs))) r.marked in
-    record { rest = q.rest; marked = q.marked; same = left-name end n place x (y ∷ xs) h.0.0 h.0.1 ∙ one end (s.LeftName (named_access n place)) (s.LeftVar (named_access n place)) y xs t.Open h.1.0.0 (left-open (named_access n place) y.place) ∙ r.same ∙ q.same }
-
--- a first term without a sign
-plain : (end : ℕ) (a : AccessText) (x : FactorText) (xs : List Placed) (more : List Mark) → Marked xs (factor x ++ more) → run end (s.First a) xs ≡ run end (s.Factor (begun a [] false)) xs
-unfolding run go step_of
-plain end a (f.Access b) [] more h = absurd h
-plain end a (f.Literal n) [] more h = absurd h
-plain end a (f.Access b) (x ∷ xs) more h = rw h.0.0 refl
-plain end a (f.Literal n) (x ∷ xs) more h = rw h.0.0 refl
-
-plain_term : (end : ℕ) (a : AccessText) (fs : List FactorText) (xs : List Placed) (more : List Mark) → 0 < length fs → Marked xs (factors fs ++ more) → run end (s.First a) xs ≡ run end (s.Factor (begun a [] false)) xs
-plain_term end a [] xs more some h = absurd (omega (arith, some))
-plain_term end a (y ∷ []) xs more some h = plain end a y xs more h
-plain_term end a (y ∷ z ∷ zs) xs more some h = plain end a y xs (bare_mark t.Star ∷ factors (z ∷ zs) ++ more) (subst (λ ms. Marked xs ms) (append_assoc (factor y) (bare_mark t.Star ∷ factors (z ∷ zs)) more) h)
-
-step-minus : (a : AccessText) (place : ℕ) → step_of (s.First a) t.Minus place ≡ Ok (s.Factor (begun a [] true))
-unfolding step_of
-step-minus a place = refl
-
-first-again : (end : ℕ) (a : AccessText) (minus : Bool) (fs : List FactorText) (xs : List TermText) (ts : List Placed) → length xs + 1 ≤ 16 → FitTerm (record { minus = minus; factors = fs }) → AllByRecursion FitTerm xs → Marked ts (terms true ((record { minus = minus; factors = fs }) ∷ xs)) → run end (s.First a) ts ≡ Ok (record { left = a; terms = (record { minus = minus; factors = fs }) ∷ xs })
-first-again end a true fs xs [] fits fx fxs h = absurd h
-first-again end a true fs xs (y ∷ ys) fits fx fxs h = one end (s.First a) (s.Factor (begun a [] true)) y ys t.Minus h.0.0 (step-minus a y.place) ∙ terms-again end a [] (record { minus = true; factors = fs }) xs ys (omega (arith, fits)) fx fxs h.1
-first-again end a false fs xs ts fits fx fxs h = plain_term end a fs ts (terms false xs) fx.some h ∙ terms-again end a [] (record { minus = false; factors = fs }) xs ts (omega (arith, fits)) fx fxs h
-
-some-again : (end : ℕ) (a : AccessText) (xs : List TermText) (ts : List Placed) → Fit (record { left = a; terms = xs }) → Marked ts (terms true xs) → run end (s.First a) ts ≡ Ok (record { left = a; terms = xs })
-some-again end a [] ts fit h = absurd (omega (arith, fit.some))
-some-again end a (x ∷ xs) ts fit h = first-again end a x.minus x.factors xs ts (omega (arith, fit.few)) fit.each.0 fit.each.1 h
+left-again : (end : ℕ) (n : List ℕ) (vs : List (List ℕ)) (place : ℕ) (xs : List Placed) (ms : List Mark)
+    → let a : AccessText = record { name = n; vars = vs; place = place } in
+    Marked xs (access_marks a ++ bare_mark t.Equals ∷ ms) → Goes end s.Start xs (s.First (begun a)) ms
+left-again end n [] place xs ms h =
+    let a : AccessText = named_access n place in
+    let p = moves_at end s.Start (λ k. s.LeftName (named_access n k)) (t.Name n) place xs (bare_mark t.Equals ∷ ms) (starts n) h in
+    let q = moves end (s.LeftName a) (s.First (begun a)) t.Equals p.rest ms (left-none a) p.marked in
+    record { rest = q.rest; marked = q.marked; same = p.same ∙ q.same }
+left-again end n (v ∷ vs) place xs ms h =
+    let a : AccessText = named_access n place in
+    let all : AccessText = with_vars a (v ∷ vs) in
+    let p = moves_at end s.Start (λ k. s.LeftName (named_access n k)) (t.Name n) place xs (variables (v ∷ vs) ++ bare_mark t.Equals ∷ ms)
+    (starts n) h in
+    let q = moves end (s.LeftName a) (s.LeftVar a) t.Open p.rest
+    ((separated (bare_mark t.Comma) var (v ∷ vs) ++ bare_mark t.Close ∷ []) ++ bare_mark t.Equals ∷ ms) (left-open a) p.marked in
+    let m = remark q.rest ((separated (bare_mark t.Comma) var (v ∷ vs) ++ bare_mark t.Close ∷ []) ++ bare_mark t.Equals ∷ ms)
+    (separated (bare_mark t.Comma) var (v ∷ vs) ++ bare_mark t.Close ∷ bare_mark t.Equals ∷ ms)
+    (append_assoc (separated (bare_mark t.Comma) var (v ∷ vs)) (bare_mark t.Close ∷ []) (bare_mark t.Equals ∷ ms)) q.marked in
+    let d = vars-again s.LeftVar s.LeftNext s.LeftDone left-var left-comma left-close end a v vs q.rest (bare_mark t.Equals ∷ ms) m in
+    let b = moves end (s.LeftDone all) (s.First (begun all)) t.Equals d.rest ms (left-done all) d.marked in
+    record { rest = b.rest; marked = b.marked; same = p.same ∙ q.same ∙ d.same ∙ b.same }
 
 pub run-again : (end : ℕ) (x : Statement) (ts : List Placed) → Spells ts x → run end s.Start ts ≡ Ok x
 run-again end x ts h =
-    let r = left-again end x.left.name x.left.vars x.left.place ts (terms true x.terms) h.marked in
-    r.same ∙ some-again end x.left x.terms r.rest h.fit r.marked
+    let e : ExprForm = h.form in
+    let n = h.shallow in
+    let p = left-again end x.left.name x.left.vars x.left.place ts (expr_marks e) h.marked in
+    let q = expr-again e end x.left [] o.Equals p.rest [] (record { fits = h.fits; shallow = omega (arith, n) })
+    (remark p.rest (expr_marks e) (expr_marks e ++ []) (sym (append-nil (expr_marks e))) p.marked) tt in
+    p.same ∙ q.same ∙ whole end (ended x.left [] o.Equals e) q.rest (ended-outer x.left o.Equals e) q.marked
+    ∙ ap Ok (ended-whole x.left o.Equals e) ∙ ap (λ (tops : List TopTextTree). Ok (record { left = x.left; tops = tops })) (sym h.means)

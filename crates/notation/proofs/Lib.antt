@@ -1,4 +1,6 @@
 pub mod TokenLemmas
+pub mod OpenForms
+pub mod ReachedForms
 pub mod Found
 pub mod Again
 pub mod First

@@ -1,4 +1,9 @@
 pub mod Tokens
 pub mod Refusals
+pub mod Trees
+pub mod TreeCode
+pub mod LevelCode
+pub mod Marks
+pub mod Forms
 pub mod Positions
 pub mod Spelling

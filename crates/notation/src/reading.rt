@@ -25,11 +25,13 @@ fn read(alloc: Global, text: &[u8]) -> Result<Statement, NoteFault>
         state = step(alloc, state, token, place)?;
         at = end;
     }
-    finish(state, text.len() as u32)
+    finish(alloc, state, text.len() as u32)
 }
 
-/// The statement that a text spells: an access, `=`, and terms with `+` or `-` between them, each of factors with `*`
-/// between them. A refusal tells the first fault. The text is read once, from the left.
+/// The statement that a text spells: an access, `=`, and an expression, which has terms with `+` or `-` between them, each of
+/// factors with `*` between them. A factor is an access, a number, an expression in parentheses, or `sum(k, e)`, the sum of an
+/// expression over a variable. A refusal tells the first fault. The text is read once, from the left, and no deeper than 32
+/// parentheses and sums within one another.
 pub fn read_statement(alloc: Global, text: &[u8]) -> Result<Statement, NoteFault>
     requires { length text.now ≤ FILE_MOST }
     // What is read is spelled so.

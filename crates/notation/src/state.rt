@@ -1,19 +1,42 @@
 //! Where the reading of a statement stands, and what was read.
 
 ghost use Rattle.std.specs.Prelude.{◌≡◌, IfOk};
-ghost use Rattle.notation.specs.Positions.{named_access, with_var, with_factor, next_term, first_term, whole_statement};
+ghost use Rattle.notation.specs.Trees.{text_tree};
+ghost use Rattle.notation.specs.Positions.{named_access, with_var, opened_level, begun, with_factor, negated};
+ghost use Rattle.notation.specs.Positions.{closed_term, next_term, deeper, closed_tree, whole_statement};
 
-use crate::statement::{AccessText, FactorText, Statement, TermText};
+use crate::levels::Levels;
+use crate::statement::{AccessText, ExprText, Statement, TopText};
+use crate::trees::{Formed, product, sum};
 use sam_base::{Items, Name};
 use std::alloc::{AllocError, Global};
 
-/// The statement as far as the term that is read, and that term as far as its last factor.
+/// What opened an expression.
 #[derive(Drop)]
-pub(crate) struct Part {
-    pub left: AccessText,
-    pub terms: Items<TermText>,
+pub(crate) enum Opened {
+    /// the `=` of the statement
+    Equals,
+    /// a `(` that stands alone
+    Parenthesis,
+    /// the word `sum`, whose first byte stands at this place, with its variable
+    Sum { var: Name, place: u32 },
+}
+
+/// An expression as far as the term that is read, and that term as far as its last factor.
+#[derive(Drop)]
+pub(crate) struct Level {
+    pub opened: Opened,
+    pub terms: Items<TopText>,
     pub minus: bool,
-    pub factors: Items<FactorText>,
+    pub factors: Items<Formed>,
+}
+
+/// What was read behind the `=`: the expression that is read, within those that stand open, the outermost last.
+#[derive(Drop)]
+pub(crate) struct Reading {
+    pub left: AccessText,
+    pub outer: Levels,
+    pub level: Level,
 }
 
 /// Where the reading stands, and what was read.
@@ -29,18 +52,24 @@ pub(crate) enum State {
     LeftNext(AccessText),
     /// behind the `)` of the left access
     LeftDone(AccessText),
-    /// right behind the `=`
-    First(AccessText),
+    /// where an expression begins
+    First(Reading),
     /// where a factor is expected
-    Factor(Part),
+    Factor(Reading),
     /// behind the name of an access
-    Named(Part, AccessText),
+    Named(Reading, AccessText),
     /// where a variable of an access is expected
-    Var(Part, AccessText),
+    Var(Reading, AccessText),
     /// behind a variable of an access
-    Next(Part, AccessText),
+    Next(Reading, AccessText),
+    /// behind the word `sum`, whose first byte stands at this place
+    SumOpen(Reading, u32),
+    /// where the variable of a sum is expected
+    SumVar(Reading, u32),
+    /// behind the variable of a sum
+    SumComma(Reading, u32, Name),
     /// behind a factor
-    Operator(Part),
+    Operator(Reading),
 }
 
 impl AccessText {
@@ -62,51 +91,112 @@ impl AccessText {
     }
 }
 
-impl Part {
-    pub(crate) fn first(alloc: Global, left: AccessText, minus: bool) -> Part
-        ensures { result ≡ first_term left minus }
+impl Level {
+    /// An expression of which nothing was read.
+    fn opened(alloc: Global, opened: Opened) -> Level
+        ensures { result ≡ opened_level opened }
     {
-        Part {
-            left,
+        Level {
+            opened,
             terms: Items::new(alloc),
-            minus,
+            minus: false,
             factors: Items::new(alloc),
         }
     }
 
-    pub(crate) fn add(&mut self, factor: FactorText) -> Result<(), AllocError>
-        ensures { IfOk result (λ _. self.new ≡ with_factor self.old factor) }
-    {
-        self.factors.push(factor)
-    }
-
-    pub(crate) fn next(self, alloc: Global, minus: bool) -> Result<Part, AllocError>
-        ensures { IfOk result (λ p. p ≡ next_term self minus) }
+    /// The terms, with the one that was read.
+    fn close_term(self, alloc: Global) -> Result<(Opened, Items<TopText>), AllocError>
+        ensures opened { IfOk result (λ closed. closed.0 ≡ self.opened) }
+        ensures terms { IfOk result (λ closed. closed.1 ≡ closed_term self) }
     {
         let mut terms = self.terms;
-        terms.push(TermText {
+        terms.push(TopText {
             minus: self.minus,
-            factors: self.factors,
+            body: product(alloc, self.factors)?,
         })?;
-        Ok(Part {
+        Ok((self.opened, terms))
+    }
+
+    /// The factor that the expression is, behind its `)`.
+    pub(crate) fn close(self, alloc: Global) -> Result<ExprText, AllocError>
+        ensures { IfOk result (λ e. text_tree e ≡ closed_tree self) }
+    {
+        let (opened, terms) = self.close_term(alloc)?;
+        let body = sum(alloc, terms)?;
+        match opened {
+            Opened::Equals | Opened::Parenthesis => Ok(body),
+            Opened::Sum { var, place } => Ok(ExprText::Sum {
+                var,
+                place,
+                body: Box::new(alloc, body)?,
+            }),
+        }
+    }
+}
+
+impl Reading {
+    /// Right behind the `=`.
+    pub(crate) fn begun(alloc: Global, left: AccessText) -> Reading
+        ensures { result ≡ begun left }
+    {
+        Reading {
+            left,
+            outer: Levels::new(alloc),
+            level: Level::opened(alloc, Opened::Equals),
+        }
+    }
+
+    pub(crate) fn add(&mut self, expr: ExprText) -> Result<(), AllocError>
+        ensures { IfOk result (λ _. self.new ≡ with_factor self.old (text_tree expr)) }
+    {
+        self.level.factors.push(Formed { expr })
+    }
+
+    /// Behind a `-` at the beginning.
+    pub(crate) fn negate(&mut self)
+        ensures { self.new ≡ negated self.old }
+    {
+        self.level.minus = true;
+    }
+
+    /// Behind a `+` or `-`.
+    pub(crate) fn next(self, alloc: Global, minus: bool) -> Result<Reading, AllocError>
+        ensures { IfOk result (λ r. r ≡ next_term self minus) }
+    {
+        let (opened, terms) = self.level.close_term(alloc)?;
+        Ok(Reading {
             left: self.left,
-            terms,
-            minus,
-            factors: Items::new(alloc),
+            outer: self.outer,
+            level: Level {
+                opened,
+                terms,
+                minus,
+                factors: Items::new(alloc),
+            },
         })
     }
 
-    pub(crate) fn finish(self) -> Result<Statement, AllocError>
+    /// The statement.
+    pub(crate) fn finish(self, alloc: Global) -> Result<Statement, AllocError>
         ensures { IfOk result (λ x. x ≡ whole_statement self) }
     {
-        let mut terms = self.terms;
-        terms.push(TermText {
-            minus: self.minus,
-            factors: self.factors,
-        })?;
+        let (_opened, tops) = self.level.close_term(alloc)?;
         Ok(Statement {
             left: self.left,
-            terms,
+            tops,
+        })
+    }
+
+    /// Within an expression that is opened.
+    pub(crate) fn deeper(self, alloc: Global, opened: Opened) -> Result<Reading, AllocError>
+        ensures { IfOk result (λ r. r ≡ deeper self opened) }
+    {
+        let mut outer = self.outer;
+        outer.push(self.level)?;
+        Ok(Reading {
+            left: self.left,
+            outer,
+            level: Level::opened(alloc, opened),
         })
     }
 }
