@@ -14,5 +14,5 @@ mod terms;
 pub use faults::ExpandFault;
 pub use laws::{products_stay, terms_denote};
 pub use programs::accepted;
-pub use scopes::implied_vars;
+pub use scopes::{bound_vars, has_free, implied_vars};
 pub use statements::expand;

@@ -24,7 +24,7 @@ fn has(e: &Expr, var: u64) -> bool
 }
 
 /// Whether an access outside every sum over a variable has it.
-fn has_free(e: &Expr, var: u64) -> bool
+pub fn has_free(e: &Expr, var: u64) -> bool
     ensures { result ≡ is_in var (free_vars (tree_of e.now)) }
 {
     match e {
@@ -70,8 +70,8 @@ fn append_bound(vars: &mut Nums, e: &Expr) -> Result<(), AllocError>
     }
 }
 
-/// The variables of the sums in an expression.
-fn bound_vars(alloc: Global, e: &Expr) -> Result<Nums, AllocError>
+/// The variables of the sums in an expression, an inner one before an outer one.
+pub fn bound_vars(alloc: Global, e: &Expr) -> Result<Nums, AllocError>
     ensures { IfOk result (λ vars. vars ≡ bound_vars (tree_of e.now)) }
 {
     let mut vars = Nums::new(alloc);
