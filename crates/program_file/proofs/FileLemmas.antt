@@ -1,5 +1,6 @@
 -- A text that is read writes an accepted program.
-use Rattle.std.proofs.Common.{◌≡◌, ℕ, suc, ◌+◌, ◌<◌, ◌≤◌, ◌^◌, List, [], ◌∷◌, ◌++◌, length, Bool, true, false, not, cond, Option, Some, None, Result, Ok, Err, refl, sym, ap, ap₂, subst, ◌∙◌, arith, inl, inr, nat_lt, IfOk, length-append}
+use Rattle.std.proofs.Common.{◌≡◌, ℕ, suc, ◌+◌, ◌<◌, ◌≤◌, ◌^◌, List, [], ◌∷◌, ◌++◌, length, Bool, true, false, not, cond, Option, Some}
+use Rattle.std.proofs.Common.{None, Result, Ok, Err, refl, sym, ap, ap₂, subst, ◌∙◌, arith, inl, inr, nat_lt, IfOk, length-append}
 use Rattle.std.specs.List.{onto_first}
 use Rattle.std.proofs.lemmas.Bool.{and_from, not-false, ltb-false, cond-true}
 use Rattle.sam_base.specs.declared.TheConstants.{FILE_MOST, VARIABLES_MOST}
@@ -19,7 +20,7 @@ use Rattle.notation.specs.declared.statement.Statement.{Statement}
 use Rattle.notation.specs.Refusals.{NoteRefusal}
 use Rattle.notation.specs.Positions.{statement_reading}
 use Rattle.notation.specs.Tokens.{tokens_of}
-use Rattle.notation.specs.Spelling.{Fit}
+use Rattle.notation.proofs.OpenForms.{some-terms}
 use Rattle.notation.proofs.First.{ok_spells}
 use Rattle.program_file.specs.declared.files.File.{File}
 use Rattle.program_file.specs.declared.faults.ProgramFault.{ProgramFault}
@@ -31,7 +32,9 @@ use Rattle.program_file.specs.Accesses.{unless}
 use Rattle.program_file.specs.declared.accesses.Variable.{Variable}
 use Rattle.program_file.specs.Numbers.{are_loops, numbering}
 use Rattle.program_file.specs.Checks.{expansion_fault, terms_fault}
-use Rattle.program_file.specs.Programs.{left_of, file_tops, sizes_of, terms_of, program_with, program_of, order_fault, loops_checked, terms_checked, expansion_checked, numbered_reading, statement_checked, bound_of, checked}
+use Rattle.program_file.specs.Programs.{left_of, file_tops, sizes_of, terms_of, program_with, program_of, order_fault, loops_checked}
+use Rattle.program_file.specs.Programs.{terms_checked, expansion_checked, sums_fault, sums_checked, checked_with, numbered_reading}
+use Rattle.program_file.specs.Programs.{statement_checked, bound_of, checked}
 use Rattle.program_file.proofs.DeclaredLemmas.{then-ok, if-ok, ok-same, no_refusal, IsRead, parts-ok, file-fits, unless-ok}
 use Rattle.program_file.proofs.FitLemmas.{Checked, file-binds, statement-fits, each-fits}
 
@@ -75,8 +78,9 @@ noted-ok : (line : ℕ) (r : Result Statement NoteRefusal) (s : Statement) → n
 noted-ok line (Ok x) s e = cc
 noted-ok line (Err r) s e = absurd cc
 
--- the statement of a file that is read is one of the grammar
-statement-fit : (past : ℕ) (ls : List NumberedLine) (found : (Statement × ℕ) × List NumberedLine) → compute_in past ls ≡ Ok found → Fit found.0.0
+-- the statement of a file that is read has a top-level term
+statement-fit : (past : ℕ) (ls : List NumberedLine) (found : (Statement × ℕ) × List NumberedLine) → compute_in past ls ≡ Ok found
+    → 0 < length found.0.0.tops
 statement-fit past [] found e = absurd (no_refusal _ _ found refl e)
 statement-fit past (l ∷ ls) found e = elim (if-ok (starts compute_word (words l.text)) _ _ found e) [
   | inl h ↦
@@ -84,8 +88,9 @@ statement-fit past (l ∷ ls) found e = elim (if-ok (starts compute_word (words 
       let a = then-ok (noted l.number (statement_reading text)) (λ statement. Ok ((statement, l.number), ls)) found h.1 in
       let read : statement_reading text ≡ Ok a.value = noted-ok l.number (statement_reading text) a.value a.was in
       let same = ok-same ((a.value, l.number), ls) found a.next in
-      let F : (Statement × ℕ) × List NumberedLine → Type 0 = λ x. Fit x.0.0 in
-      subst F same (ok_spells (length text) (tokens_of text) a.value read).fit
+      let F : (Statement × ℕ) × List NumberedLine → Type 0 = λ x. 0 < length x.0.0.tops in
+      let spelled = ok_spells (length text) (tokens_of text) a.value read in
+      subst F same (subst (λ tops. 0 < length tops) (sym spelled.means) (some-terms spelled.form))
   | inr h ↦ absurd (no_refusal _ _ found refl h.1)
 ]
 
@@ -101,8 +106,10 @@ few-tensors text f short r =
     let F : File → Type 0 = λ g. length g.tensors < 2 ^ 32 in
     subst F r.is (omega arith)
 
-fit-statement : (past : ℕ) (ls : List NumberedLine) (f : File) → IsRead past ls f → Fit f.statement
-fit-statement past ls f r = let F : File → Type 0 = λ g. Fit g.statement in subst F r.is (statement-fit past r.declared.1 r.statement r.statement_in)
+fit-statement : (past : ℕ) (ls : List NumberedLine) (f : File) → IsRead past ls f → 0 < length f.statement.tops
+fit-statement past ls f r =
+    let F : File → Type 0 = λ g. 0 < length g.statement.tops in
+    subst F r.is (statement-fit past r.declared.1 r.statement r.statement_in)
 
 -- ---- the checks
 
@@ -150,7 +157,11 @@ by-loops vars loops e = cond-true (are_loops vars loops) _ _ e
 statement-ok : (f : File) (vars : List Variable) (u : Unit {0}) → statement_checked f vars ≡ Ok u → Checked f vars
 statement-ok f vars u e =
     let names = numbering vars f.loops in
-    let s = then-ok (expansion_checked f.statement_line (terms_of names f vars)) (λ terms. terms_checked names f vars terms) u e in
+    let sums = sums_fault names f vars (left_of names f) (file_tops names f) in
+    let z = then-ok (unless f.statement_line sums (tt {0}))
+    (λ _. and_then (expansion_checked f.statement_line (terms_of names f vars)) (λ terms. terms_checked names f vars terms)) u e in
+    let right : sums ≡ None = unless-none f.statement_line sums (tt {0}) z.value z.was in
+    let s = then-ok (expansion_checked f.statement_line (terms_of names f vars)) (λ terms. terms_checked names f vars terms) u z.next in
     let k = kept f.statement_line (terms_of names f vars) s.value s.was in
     let t = terms-ok names f vars s.value u s.next in
     let by = by-loops vars f.loops t.loops in
@@ -158,6 +169,7 @@ statement-ok f vars u e =
     let fault = subst (λ ts. F names ts) (sym k.same) t.fault in
     record {
       loops = t.loops;
+      sums = subst (λ ns. sums_fault ns f vars (left_of ns f) (file_tops ns f) ≡ None) by right;
       few = subst (λ ns. length (terms_of ns f vars) ≤ 16) by k.few;
       short = subst (λ ns. have_long (terms_of ns f vars) ≡ false) by k.short;
       fault = subst (λ ns. F ns (terms_of ns f vars)) by fault;
@@ -169,8 +181,8 @@ statement-ok f vars u e =
 numbered-program : (f : File) (vars : List Variable) (names : List (List ℕ)) → names ≡ numbering vars f.loops
     → numbered_reading names f vars (left_of names f) (file_tops names f) (sizes_of names f vars) ≡ and_then (statement_checked f vars) (λ _. Ok (program_of f vars))
 numbered-program f vars names by =
-    by_case (expansion_checked f.statement_line (terms_of names f vars)) refl
-    ∙ ap (λ ns. and_then (and_then (expansion_checked f.statement_line (terms_of ns f vars)) (λ ts. terms_checked ns f vars ts)) (λ _. Ok (program_of f vars))) by
+    by_sums (sums_checked names f vars (left_of names f) (file_tops names f))
+    ∙ ap (λ ns. and_then (checked_with ns f vars) (λ _. Ok (program_of f vars))) by
   where
     program : List Term → Program
     program terms = program_with f (left_of names f) terms (file_tops names f) (sizes_of names f vars)
@@ -188,6 +200,15 @@ numbered-program f vars names by =
         ≡ and_then (and_then r (λ ts. terms_checked names f vars ts)) (λ _. Ok (program_of f vars))
     by_case (Ok terms) e = last terms (terms_checked names f vars terms) (sym (kept f.statement_line (terms_of names f vars) terms e).same) refl
     by_case (Err r) e = refl
+
+    by_sums : (r : Result (Unit {0}) ProgramRefusal)
+        → and_then r (λ _. and_then (expansion_checked f.statement_line (terms_of names f vars))
+        (λ ts. and_then (terms_checked names f vars ts) (λ _. Ok (program ts))))
+        ≡ and_then
+        (and_then r (λ _. and_then (expansion_checked f.statement_line (terms_of names f vars)) (λ ts. terms_checked names f vars ts)))
+        (λ _. Ok (program_of f vars))
+    by_sums (Ok u) = by_case (expansion_checked f.statement_line (terms_of names f vars)) refl
+    by_sums (Err r) = refl
 
 pub file-numbered : (f : File) (vars : List Variable) (names : List (List ℕ)) (left : List ℕ) (tops : List TopTree) (sizes : List ℕ) → bound_of f ≡ Ok vars → names ≡ numbering vars f.loops
     → left ≡ left_of names f → tops ≡ file_tops names f → sizes ≡ sizes_of names f vars → numbered_reading names f vars left tops sizes ≡ checked f
@@ -210,7 +231,7 @@ checked-accepted text f p short e h =
     let fit = fit-statement (1 + length (lines text)) (counted_lines 1 (lines text)) f r in
     let declared = file-fits (1 + length (lines text)) (counted_lines 1 (lines text)) f r in
     let A : Program → Type 0 = λ q. accepted q ≡ true in
-    subst A is (and_from _ _ (and_from _ _ declared (statement-fits f a.value few fit binds c)) (each-fits f a.value binds c.loops))
+    subst A is (and_from _ _ (and_from _ _ declared (statement-fits f a.value few fit binds c)) (each-fits f a.value binds c))
 
 pub if-accepted : (text : List ℕ) (f : File) (res : Result Program ProgramFault) → length text ≤ FILE_MOST → file_reading text ≡ Ok f → GivesProgram res (checked f) → IfOk res (λ p. accepted p ≡ true)
 if-accepted text f (Ok p) short e h = checked-accepted text f p short e h

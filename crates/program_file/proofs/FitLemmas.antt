@@ -1,34 +1,42 @@
 -- A file that passes the checks makes a statement that fits.
-use Rattle.std.proofs.Common.{◌≡◌, ℕ, ◌-◌, ◌^◌, ◌<◌, ◌≤◌, min, List, [], ◌∷◌, length, Bool, true, false, not, ◌&&◌, ◌==◌, cond, Option, Some, None, Ok, refl, sym, subst, ◌∙◌, arith, ◌⊎◌, inl, inr, nat_lt}
+use Rattle.std.proofs.Common.{◌≡◌, ℕ, ◌-◌, ◌^◌, ◌<◌, ◌≤◌, min, List, [], ◌∷◌, length, Bool, true, false, not, ◌&&◌, ◌==◌, cond, Option}
+use Rattle.std.proofs.Common.{Some, None, Ok, refl, sym, subst, ◌∙◌, arith, ◌⊎◌, inl, inr, nat_lt}
 use Rattle.std.specs.List.{list_all, list_any}
 use Rattle.std.specs.Str.{bytes_eq}
-use Rattle.std.proofs.lemmas.Bool.{and_parts, and_from, or_parts, or_left, or_right, or_cases, not-false, eqb-true, eq-eqb, ltb-false, le-leb, lt-ltb, false≢true}
+use Rattle.std.proofs.lemmas.Bool.{and_parts, and_from, or_parts, or_left, or_right, or_cases, not-false, eqb-true, eq-eqb, ltb-false}
+use Rattle.std.proofs.lemmas.Bool.{le-leb, lt-ltb, false≢true}
 use Rattle.std.proofs.lemmas.List.{length-map}
 use mathlib.Core.List.{map}
 use Rattle.sam_base.specs.declared.faults.ProgramKind.{ProgramKind}
-use Rattle.sam_base.specs.declared.faults.ProgramKind.TheVariants.{ArityMismatch, RepeatedVariable, DimMismatch, MissingResultVariable, NoAccess, ReducerTooDeep}
+use Rattle.sam_base.specs.declared.faults.ProgramKind.TheVariants.{UnusedSum, ArityMismatch, RepeatedVariable, DimMismatch}
+use Rattle.sam_base.specs.declared.faults.ProgramKind.TheVariants.{MissingResultVariable, NoAccess, ReducerTooDeep}
 use Rattle.sam_model.specs.declared.tensors.Tensor.{Tensor}
 use Rattle.sam_model.specs.Lists.{is_in, items_at}
 use Rattle.sam_model.specs.declared.program.Factor.{Factor}
 use Rattle.sam_model.specs.declared.program.Term.{Term}
 use Rattle.sam_model.specs.Denote.{vars_of, has_var}
-use Rattle.sam_model.specs.Accepted.{access_fits, ascending, distinct_names, factor_fits, factor_reduces, is_access, is_named, reduces, stands, statement_fits, tensor_passes, term_fits, term_has}
+use Rattle.sam_model.specs.Accepted.{access_fits, ascending, distinct_names, factor_fits, factor_reduces, is_access, is_named, reduces}
+use Rattle.sam_model.specs.Accepted.{stands, statement_fits, tensor_passes, term_fits, term_has}
 use Rattle.sam_model.specs.Scopes.{are_in_range, top_fits}
 use Rattle.sam_model.specs.Program.{tops_fit}
 use Rattle.sam_model.proofs.EqualTerms.{same_terms-self}
 use Rattle.expand.specs.Counting.{is_long, have_long}
 use Rattle.notation.specs.declared.statement.AccessText.{AccessText}
-use Rattle.notation.specs.Spelling.{Fit}
 use Rattle.program_file.specs.declared.accesses.Variable.{Variable}
 use Rattle.program_file.specs.declared.files.File.{File}
-use Rattle.program_file.specs.Accesses.{is_known, repeated_variable, mismatched, with_variables, tensor_named, named_kind, access_fault, unless, bind_access, bind_left, bind_named, bind_right, bind_accesses}
+use Rattle.program_file.specs.Accesses.{is_known, repeated_variable, mismatched, with_variables, tensor_named, named_kind, access_fault}
+use Rattle.program_file.specs.Accesses.{unless, bind_access, bind_left, bind_named, bind_right, bind_accesses}
 use Rattle.program_file.specs.Numbers.{are_loops, place_of, places, name_at, size_of, tensor_place, number_of}
-use Rattle.program_file.specs.Statements.{right_accesses}
-use Rattle.program_file.specs.Checks.{first_of, access_discordant, named_discordant, accesses_discordant, has_named, missing, term_fault, terms_fault, vars_deep, factors_deep, terms_deep}
-use Rattle.program_file.specs.Programs.{left_of, file_tops, sizes_of, terms_of, program_of, bound_of, order_fault}
+use Rattle.program_file.specs.Statements.{right_accesses, right_sums}
+use Rattle.program_file.specs.Checks.{first_of, unused, tops_bind_wrong, access_discordant, named_discordant, accesses_discordant}
+use Rattle.program_file.specs.Checks.{has_named, missing, term_fault, terms_fault, vars_deep, factors_deep, terms_deep}
+use Rattle.program_file.specs.Programs.{left_of, file_tops, sizes_of, terms_of, program_of, bound_of, sums_fault, order_fault}
 use Rattle.program_file.proofs.DeclaredLemmas.{then-ok, if-ok, unless-ok, no_refusal}
-use Rattle.program_file.proofs.BoundLemmas.{sized, joined-sized, joined-keeps, joined-from, repeated-distinct, sized-more, named-in, distinct-places, places-fit, sized-named, named-passes, place-item, own-place, all-at, all-range, known-named}
+use Rattle.program_file.proofs.BoundLemmas.{sized, joined-sized, joined-keeps, joined-from, repeated-distinct, sized-more, named-in}
+use Rattle.program_file.proofs.BoundLemmas.{distinct-places, places-fit, sized-named, named-passes, place-item, own-place, all-at}
+use Rattle.program_file.proofs.BoundLemmas.{all-range, known-named}
 use Rattle.program_file.proofs.StatementLemmas.{numbered_access, terms-pass, terms-have, some-terms, tops-fit}
+use Rattle.program_file.proofs.SumFits.{no-fault-right}
 
 -- more is known, and what was known stays
 abbrev pub Extends : List Variable → List Variable → Type 0
@@ -263,6 +271,7 @@ terms-fit tensors sizes names left (t ∷ ts) short fit fault deep =
 -- what holds of a file that passes the checks behind those of its accesses
 pub record Checked (f : File) (vars : List Variable) : Type 0 where
   pub loops : are_loops vars f.loops ≡ true
+  pub sums : sums_fault f.loops f vars (left_of f.loops f) (file_tops f.loops f) ≡ None
   pub few : length (terms_of f.loops f vars) ≤ 16
   pub short : have_long (terms_of f.loops f vars) ≡ false
   pub fault : terms_fault f.loops f.statement.left.vars (terms_of f.loops f vars) ≡ None
@@ -281,7 +290,9 @@ loop-stands f vars b known apart k h =
           (terms-have f.loops f vars (place_of f.loops name) ∙ has-there f.tensors f.loops name (right_accesses f.statement) e)
     ])
 
-pub statement-fits : (f : File) (vars : List Variable) → length f.tensors < 2 ^ 32 → Fit f.statement → BindsFile f vars → Checked f vars → statement_fits (program_of f vars) ≡ true
+pub statement-fits : (f : File) (vars : List Variable) → length f.tensors < 2 ^ 32
+    → 0 < length f.statement.tops → BindsFile f vars → Checked f vars
+    → statement_fits (program_of f vars) ≡ true
 statement-fits f vars few fit b c =
     let p = and_parts _ _ c.loops in
     let q = and_parts _ _ p.1 in
@@ -301,7 +312,7 @@ statement-fits f vars few fit b c =
     (and_from _ _ r.0
     (and_from _ _ (all-range (stands (left_of f.loops f) terms) 0 (length (sizes_of f.loops f vars)) (λ k low high. loop-stands f vars b q.0 r.0 k (omega arith)))
     (and_from _ _ (access-fits f.loops vars known f.statement.left f.result b.sizes b.apart o.0)
-    (and_from _ _ (le-leb 1 (length terms) (some-terms f.loops f vars fit.some))
+    (and_from _ _ (le-leb 1 (length terms) (some-terms f.loops f vars fit))
     (and_from _ _ (le-leb (length terms) 16 c.few)
     (terms-fit f.tensors (sizes_of f.loops f vars) f.loops f.statement.left.vars terms c.short factors c.fault o2.1)))))))
 
@@ -327,9 +338,14 @@ loops-known vars loops e =
     let q = and_parts known (distinct_names loops && named) p.1 in
     known-named vars loops (and_parts (distinct_names loops) named q.1).1
 
-pub each-fits : (f : File) (vars : List Variable) → BindsFile f vars → are_loops vars f.loops ≡ true → tops_fit (program_of f vars) ≡ true
-each-fits f vars b loops =
-    let below = accesses-below f.tensors f.loops vars (loops-known vars f.loops loops) (right_accesses f.statement) b.accesses in
+pub each-fits : (f : File) (vars : List Variable) → BindsFile f vars → Checked f vars → tops_fit (program_of f vars) ≡ true
+each-fits f vars b c =
+    let left = left_of f.loops f in
+    let known = loops-known vars f.loops c.loops in
+    let below = accesses-below f.tensors f.loops vars known (right_accesses f.statement) b.accesses in
+    let none = kind-none UnusedSum (unused vars (right_sums f.statement)) (tops_bind_wrong f.loops left (file_tops f.loops f)) c.sums in
+    let right = no-fault-right f.tensors vars f.loops known left f.statement.tops none.0 none.1 in
     let count : length f.loops ≡ length (sizes_of f.loops f vars) = sym (length-map f.loops (size_of vars)) in
     and_from _ _ (same_terms-self (terms_of f.loops f vars))
-    (subst (λ n. list_all (top_fits n (left_of f.loops f)) (file_tops f.loops f) ≡ true) count (tops-fit f.tensors f.loops (left_of f.loops f) f.statement below))
+    (subst (λ n. list_all (top_fits n left) (file_tops f.loops f) ≡ true) count
+    (tops-fit f.tensors f.loops left f.statement.tops below right))

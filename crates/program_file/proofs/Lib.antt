@@ -3,7 +3,9 @@ pub mod PartLemmas
 pub mod DeclaredLemmas
 pub mod NameLemmas
 pub mod BoundLemmas
+pub mod SumLemmas
 pub mod StatementLemmas
+pub mod SumFits
 pub mod FitLemmas
 pub mod FileLemmas
 pub mod NameSets

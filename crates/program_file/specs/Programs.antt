@@ -3,7 +3,7 @@ use Rattle.std.specs.Prelude.{ℕ, not, nat_lt, List, length, if◌then◌else�
 use mathlib.Core.List.{map}
 use Rattle.sam_base.specs.declared.TheConstants.{VARIABLES_MOST}
 use Rattle.sam_base.specs.declared.faults.ProgramKind.{ProgramKind}
-use Rattle.sam_base.specs.declared.faults.ProgramKind.TheVariants.{TooManyVariables, LoopsMismatch}
+use Rattle.sam_base.specs.declared.faults.ProgramKind.TheVariants.{UnusedSum, TooManyVariables, LoopsMismatch}
 use Rattle.sam_model.specs.declared.program.Term.{Term}
 use Rattle.sam_model.specs.declared.program.Program.{Program}
 use Rattle.sam_model.specs.Trees.{TopTree}
@@ -12,9 +12,10 @@ use Rattle.program_file.specs.declared.accesses.Variable.{Variable}
 use Rattle.program_file.specs.declared.files.File.{File}
 use Rattle.program_file.specs.Refusals.{ProgramRefusal, program_refused, and_then}
 use Rattle.program_file.specs.Numbers.{are_loops, numbering, places, size_of}
-use Rattle.program_file.specs.Statements.{right_accesses, tops_of}
-use Rattle.program_file.specs.Accesses.{bind_left, bind_accesses, unless}
-use Rattle.program_file.specs.Checks.{first_of, expansion_fault, terms_fault, terms_deep, access_discordant, accesses_discordant}
+use Rattle.program_file.specs.Statements.{right_accesses, right_sums, tops_of}
+use Rattle.program_file.specs.Accesses.{bind_left, bind_accesses, named_kind, unless}
+use Rattle.program_file.specs.Checks.{first_of, unused, tops_bind_wrong, expansion_fault, terms_fault, terms_deep, access_discordant}
+use Rattle.program_file.specs.Checks.{accesses_discordant}
 use Rattle.program_file.specs.Files.{file_reading}
 
 -- ---- a file's statement by numbers, where its variables have these names
@@ -73,16 +74,28 @@ terms_checked names f vars terms =
 abbrev pub expansion_checked : ℕ → List Term → Result (List Term) ProgramRefusal
 expansion_checked line terms = unless line (expansion_fault terms) terms
 
--- the checks of the statement behind those of its accesses, and then those of the loops
+-- the first fault of the sums: one over a variable that stands nowhere, and then one over a variable that it may not be over
+abbrev pub sums_fault : List (List ℕ) → File → List Variable → List ℕ → List TopTree → Option ProgramKind
+sums_fault names f vars left tops = named_kind UnusedSum (unused vars (right_sums f.statement)) (tops_bind_wrong names left tops)
+
+abbrev pub sums_checked : List (List ℕ) → File → List Variable → List ℕ → List TopTree → Result (Unit {0}) ProgramRefusal
+sums_checked names f vars left tops = unless f.statement_line (sums_fault names f vars left tops) (tt {0})
+
+-- the checks of the statement behind those of its accesses, and then those of the loops, where variables have these names
+abbrev pub checked_with : List (List ℕ) → File → List Variable → Result (Unit {0}) ProgramRefusal
+checked_with names f vars =
+    and_then (sums_checked names f vars (left_of names f) (file_tops names f)) (λ _.
+    and_then (expansion_checked f.statement_line (terms_of names f vars)) (λ terms. terms_checked names f vars terms))
+
 abbrev pub statement_checked : File → List Variable → Result (Unit {0}) ProgramRefusal
-statement_checked f vars =
-    and_then (expansion_checked f.statement_line (terms_of (numbering vars f.loops) f vars)) (λ terms. terms_checked (numbering vars f.loops) f vars terms)
+statement_checked f vars = checked_with (numbering vars f.loops) f vars
 
 -- what is read of a file whose statement is this by numbers, where variables have these names
 abbrev pub numbered_reading : List (List ℕ) → File → List Variable → List ℕ → List TopTree → List ℕ → Result Program ProgramRefusal
 numbered_reading names f vars left tops sizes =
+    and_then (sums_checked names f vars left tops) (λ _.
     and_then (expansion_checked f.statement_line (expanded_tops sizes tops)) (λ terms.
-    and_then (terms_checked names f vars terms) (λ _. Ok (program_with f left terms tops sizes)))
+    and_then (terms_checked names f vars terms) (λ _. Ok (program_with f left terms tops sizes))))
 
 abbrev pub bound_of : File → Result (List Variable) ProgramRefusal
 bound_of f =

@@ -1,4 +1,4 @@
-//! The checks that follow when each access is right: of the expanded terms, and of the order of the loops.
+//! The checks that follow when each access is right: of the sums, of the expanded terms, and of the order of the loops.
 
 ghost use Rattle.std.specs.Prelude.{◌≡◌, option_copied, IfOk};
 ghost use Rattle.std.specs.List.{list_any};
@@ -6,13 +6,30 @@ ghost use mathlib.Core.List.{map};
 ghost use Rattle.sam_model.specs.Denote.{vars_of};
 ghost use Rattle.program_file.specs.Checks.{has_named, missing, term_fault, terms_fault, vars_deep, factors_deep, terms_deep};
 ghost use Rattle.program_file.specs.Checks.{access_discordant, accesses_discordant};
+ghost use Rattle.program_file.specs.Checks.{unused};
 
-use crate::accesses::tensor_named;
+use crate::accesses::{Variable, is_known, tensor_named};
 use crate::numbers::{name_at, place_of, places};
 use notation::AccessText;
 use sam_base::{Name, ProgramKind};
 use sam_model::{Factor, Tensor, Term, ascending, has_access, reduces, term_has};
 use std::alloc::{AllocError, Global};
+
+/// The first of these names that is no variable of the statement's accesses.
+pub(crate) fn unused<'a>(vars: &[Variable], sums: &[&'a Name]) -> Option<&'a Name>
+    ensures { option_copied result ≡ unused vars.now (map (λ v. v.now) sums.now) }
+{
+    match sums {
+        [] => None,
+        [first, rest @ ..] => {
+            if is_known(first.as_bytes(), vars) {
+                unused(vars, rest)
+            } else {
+                Some(*first)
+            }
+        }
+    }
+}
 
 #[tactic(auto, unfolding(crate::specs::Checks::has_named))]
 fn has_named(names: &[Name], term: &Term, name: &[u8]) -> bool

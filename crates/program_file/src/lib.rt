@@ -11,6 +11,7 @@ mod names;
 mod numbers;
 mod programs;
 mod statements;
+mod sums;
 
 pub use faults::ProgramFault;
 pub use programs::read_program;

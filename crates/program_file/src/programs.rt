@@ -7,16 +7,18 @@ ghost use Rattle.sam_model.specs.Expressions.{expanded_tops};
 ghost use Rattle.program_file.specs.Statements.{right_accesses};
 ghost use Rattle.program_file.specs.Programs.{file_tops, left_of, sizes_of, program_reading};
 ghost use Rattle.program_file.specs.Checks.{accesses_discordant, terms_deep};
-ghost use Rattle.program_file.specs.Programs.{bound_of, order_fault, loops_checked, terms_checked, expansion_checked, numbered_reading, checked};
+ghost use Rattle.program_file.specs.Programs.{bound_of, order_fault, loops_checked, terms_checked, sums_fault, sums_checked};
+ghost use Rattle.program_file.specs.Programs.{expansion_checked, numbered_reading, checked};
 ghost use Rattle.program_file.specs.Written.{Writes};
 ghost use Rattle.program_file.specs.Refusals.{GivesProgram};
 
 use crate::accesses::{Accesses, Variable};
-use crate::checks::{access_discordant, accesses_discordant, terms_deep, terms_fault};
+use crate::checks::{access_discordant, accesses_discordant, terms_deep, terms_fault, unused};
 use crate::faults::ProgramFault;
 use crate::files::{File, read_file};
 use crate::numbers::{are_loops, numbering, places, sizes_of};
-use crate::statements::{Names, right_accesses};
+use crate::statements::{Names, right_accesses, right_sums};
+use crate::sums::tops_bind_wrong;
 use expand::{ExpandFault, expand};
 use sam_base::{FILE_MOST, Items, Name, Nums, ProgramKind, VARIABLES_MOST};
 use sam_model::{Program, Term, Top};
@@ -181,6 +183,51 @@ fn check_terms(
     check_loops(alloc, file, vars, terms)
 }
 
+/// The first fault of the sums, where the statement is this by numbers and variables have these names.
+fn sums_fault(
+    alloc: Global,
+    names: &[Name],
+    file: &File,
+    vars: &[Variable],
+    statement: &NumberedStatement,
+) -> Result<Option<ProgramKind>, AllocError>
+    ensures { IfOk result
+        (λ fault. fault ≡ sums_fault names.now file.now vars.now statement.now.left statement.now.tops) }
+{
+    let sums = right_sums(alloc, &file.statement)?;
+    match unused(vars, &sums) {
+        Some(name) => {
+            let name = Name::from_slice(alloc, name.as_bytes())?;
+            Ok(Some(ProgramKind::UnusedSum(name)))
+        }
+        None => tops_bind_wrong(
+            alloc,
+            names,
+            statement.left.as_slice(),
+            statement.tops.as_slice(),
+        ),
+    }
+}
+
+/// The checks of the sums.
+fn check_sums(
+    alloc: Global,
+    names: &[Name],
+    file: &File,
+    vars: &[Variable],
+    statement: &NumberedStatement,
+) -> Result<(), ProgramFault>
+    ensures { GivesProgram result (sums_checked names.now file.now vars.now statement.now.left statement.now.tops) }
+{
+    match sums_fault(alloc, names, file, vars, statement)? {
+        Some(kind) => Err(ProgramFault::Refused {
+            kind,
+            line: file.statement_line,
+        }),
+        None => Ok(()),
+    }
+}
+
 /// The program of a file whose statement is this by numbers, where variables have these names.
 fn numbered_program(
     alloc: Global,
@@ -191,6 +238,7 @@ fn numbered_program(
 ) -> Result<Program, ProgramFault>
     ensures { GivesProgram result (numbered_reading names.now file vars.now statement.left statement.tops statement.sizes) }
 {
+    check_sums(alloc, names, &file, vars, &statement)?;
     let NumberedStatement { left, sizes, tops } = statement;
     let terms = expanded_terms(alloc, file.statement_line, &tops, &sizes)?;
     check_terms(alloc, names, &file, vars, terms.as_slice())?;

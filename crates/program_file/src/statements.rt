@@ -1,32 +1,37 @@
-//! The right side of a statement: its accesses, and its top-level terms by numbers.
+//! The right side of a statement: its accesses and its sums, and its top-level terms by numbers.
 
 ghost use Rattle.std.specs.Prelude.{◌≡◌, ◌++◌, length, IfOk, OnOk};
-ghost use Rattle.std.specs.List.{flat_map};
 ghost use mathlib.Core.List.{map};
 ghost use Rattle.sam_model.specs.Trees.{tree_of};
-ghost use Rattle.program_file.specs.Statements.{factor_accesses, right_accesses, with_factors, product_of, factor_tree, body_of, top_of, tops_of};
+ghost use Rattle.notation.specs.Trees.{text_tree};
+ghost use Rattle.program_file.specs.Statements.{tree_accesses, right_accesses, tree_sums, right_sums, var_of, body_of, top_of, tops_of};
 
-use crate::numbers::{number_of, places};
+use crate::numbers::{number_of, place_of, places};
 use expand::implied_vars;
-use notation::{AccessText, FactorText, Statement, TermText};
+use notation::{AccessText, ExprText, Statement, TopText};
 use sam_base::{Items, Name};
 use sam_model::{Expr, Tensor, Top};
 use std::alloc::{AllocError, Global};
 
-/// Appends the accesses among some factors.
+/// Appends the accesses of an expression.
 fn append_accesses<'a>(
     accesses: &mut Vec<&'a AccessText>,
-    factors: &'a [FactorText],
+    e: &'a ExprText,
 ) -> Result<(), AllocError>
-    ensures { OnOk result (map (λ a. a.now) accesses.new.items ≡ map (λ a. a.now) accesses.old.items ++ flat_map factor_accesses factors.now) }
+    ensures { OnOk result (map (λ a. a.now) accesses.new.items ≡ map (λ a. a.now) accesses.old.items ++ tree_accesses (text_tree e.now)) }
 {
-    for factor in factors {
-        match factor {
-            FactorText::Access(access) => accesses.push(access)?,
-            FactorText::Literal(_) => (),
+    match e {
+        ExprText::Access(access) => {
+            accesses.push(access)?;
+            Ok(())
         }
+        ExprText::Literal(_) => Ok(()),
+        ExprText::Times(a, b) | ExprText::Plus(a, b) | ExprText::Minus(a, b) => {
+            append_accesses(accesses, a)?;
+            append_accesses(accesses, b)
+        }
+        ExprText::Negate(body) | ExprText::Sum { body, .. } => append_accesses(accesses, body),
     }
-    Ok(())
 }
 
 /// The accesses of the right side, in the order of the text.
@@ -37,10 +42,51 @@ pub(crate) fn right_accesses(
     ensures { IfOk result (λ accesses. map (λ a. a.now) accesses.items ≡ right_accesses statement.now) }
 {
     let mut accesses = Vec::new(alloc);
-    for term in statement.terms.as_slice() {
-        append_accesses(&mut accesses, term.factors.as_slice())?;
+    for top in statement.tops.as_slice() {
+        append_accesses(&mut accesses, &top.body)?;
     }
     Ok(accesses)
+}
+
+/// Appends the variables of the sums in an expression, an outer one before those within it.
+fn append_sums<'a>(sums: &mut Vec<&'a Name>, e: &'a ExprText) -> Result<(), AllocError>
+    ensures { OnOk result (map (λ v. v.now) sums.new.items ≡ map (λ v. v.now) sums.old.items ++ tree_sums (text_tree e.now)) }
+{
+    match e {
+        ExprText::Access(_) | ExprText::Literal(_) => Ok(()),
+        ExprText::Times(a, b) | ExprText::Plus(a, b) | ExprText::Minus(a, b) => {
+            append_sums(sums, a)?;
+            append_sums(sums, b)
+        }
+        ExprText::Negate(body) => append_sums(sums, body),
+        ExprText::Sum { var, body, .. } => {
+            sums.push(var)?;
+            append_sums(sums, body)
+        }
+    }
+}
+
+/// The variables of the sums of the right side, in the order of the text.
+pub(crate) fn right_sums(alloc: Global, statement: &Statement) -> Result<Vec<&Name>, AllocError>
+    ensures { IfOk result (λ sums. map (λ v. v.now) sums.items ≡ right_sums statement.now) }
+{
+    let mut sums = Vec::new(alloc);
+    for top in statement.tops.as_slice() {
+        append_sums(&mut sums, &top.body)?;
+    }
+    Ok(sums)
+}
+
+/// The variable of a sum by its number.
+fn var_of(names: &[Name], name: &[u8]) -> u32
+    ensures { result ≡ var_of names.now name.now }
+{
+    let place = place_of(names, name);
+    if place < u32::MAX as usize {
+        place as u32
+    } else {
+        u32::MAX
+    }
 }
 
 /// The names that a statement's text speaks of: the tensors, and the variables in the order of their numbers.
@@ -51,60 +97,48 @@ pub(crate) struct Names<'a> {
 }
 
 impl Names<'_> {
-    fn factor(&self, alloc: Global, factor: &FactorText) -> Result<Expr, AllocError>
-        ensures { IfOk result (λ e. tree_of e ≡ factor_tree self.now.tensors.now self.now.variables.now factor.now) }
+    fn body(&self, alloc: Global, e: &ExprText) -> Result<Expr, AllocError>
+        ensures { IfOk result (λ body. tree_of body ≡ body_of self.now.tensors.now self.now.variables.now (text_tree e.now)) }
     {
-        match factor {
-            FactorText::Access(access) => Ok(Expr::Access {
+        match e {
+            ExprText::Access(access) => Ok(Expr::Access {
                 tensor: number_of(self.tensors, access.name.as_bytes()),
                 vars: places(alloc, self.variables, access.vars.as_slice())?,
             }),
-            FactorText::Literal(number) => Ok(Expr::Literal(*number)),
-        }
-    }
-
-    /// A product with more factors, one after another.
-    fn with_factors(
-        &self,
-        alloc: Global,
-        product: Expr,
-        factors: &[FactorText],
-    ) -> Result<Expr, AllocError>
-        ensures { IfOk result
-            (λ e. tree_of e ≡ with_factors (tree_of product) (map (factor_tree self.now.tensors.now self.now.variables.now) factors.now)) }
-    {
-        match factors {
-            [] => Ok(product),
-            [first, rest @ ..] => {
-                let factor = self.factor(alloc, first)?;
-                let left = Box::new(alloc, product)?;
-                let right = Box::new(alloc, factor)?;
-                self.with_factors(alloc, Expr::Times(left, right), rest)
+            ExprText::Literal(number) => Ok(Expr::Literal(*number)),
+            ExprText::Times(a, b) => {
+                let (a, b) = (self.body(alloc, a)?, self.body(alloc, b)?);
+                Ok(Expr::Times(Box::new(alloc, a)?, Box::new(alloc, b)?))
+            }
+            ExprText::Plus(a, b) => {
+                let (a, b) = (self.body(alloc, a)?, self.body(alloc, b)?);
+                Ok(Expr::Plus(Box::new(alloc, a)?, Box::new(alloc, b)?))
+            }
+            ExprText::Minus(a, b) => {
+                let (a, b) = (self.body(alloc, a)?, self.body(alloc, b)?);
+                Ok(Expr::Minus(Box::new(alloc, a)?, Box::new(alloc, b)?))
+            }
+            ExprText::Negate(body) => {
+                let body = self.body(alloc, body)?;
+                Ok(Expr::Negate(Box::new(alloc, body)?))
+            }
+            ExprText::Sum { var, body, .. } => {
+                let body = self.body(alloc, body)?;
+                Ok(Expr::Sum {
+                    var: var_of(self.variables, var.as_bytes()),
+                    body: Box::new(alloc, body)?,
+                })
             }
         }
     }
 
-    /// The product of a term's factors.
-    fn product(&self, alloc: Global, factors: &[FactorText]) -> Result<Expr, AllocError>
-        ensures { IfOk result
-            (λ e. tree_of e ≡ product_of (map (factor_tree self.now.tensors.now self.now.variables.now) factors.now)) }
+    fn top(&self, alloc: Global, left: &[u64], top: &TopText) -> Result<Top, AllocError>
+        ensures { IfOk result (λ made. made ≡ top_of self.now.tensors.now self.now.variables.now left.now top.now) }
     {
-        match factors {
-            [] => Ok(Expr::Literal(1)),
-            [first, rest @ ..] => {
-                let first = self.factor(alloc, first)?;
-                self.with_factors(alloc, first, rest)
-            }
-        }
-    }
-
-    fn top(&self, alloc: Global, left: &[u64], term: &TermText) -> Result<Top, AllocError>
-        ensures { IfOk result (λ top. top ≡ top_of self.now.tensors.now self.now.variables.now left.now term.now) }
-    {
-        let body = self.product(alloc, term.factors.as_slice())?;
+        let body = self.body(alloc, &top.body)?;
         let implied = implied_vars(alloc, self.variables.len() as u64, left, &body)?;
         Ok(Top {
-            minus: term.minus,
+            minus: top.minus,
             body,
             implied,
         })
@@ -120,8 +154,8 @@ impl Names<'_> {
         ensures { IfOk result (λ tops. tops ≡ tops_of self.now.tensors.now self.now.variables.now left.now statement.now) }
     {
         let mut tops = Items::new(alloc);
-        for term in statement.terms.as_slice() {
-            tops.push(self.top(alloc, left, term)?)?;
+        for top in statement.tops.as_slice() {
+            tops.push(self.top(alloc, left, top)?)?;
         }
         Ok(tops)
     }
