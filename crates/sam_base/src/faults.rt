@@ -10,18 +10,14 @@ use crate::lists::{Items, Name};
 pub enum NoteKind {
     /// A byte begins no token.
     BadChar,
-    /// A name was to stand here: at the start, after `(` or after `,` inside an access.
+    /// A name was to stand here: at the start, after `(` or `,` inside an access, or after the `(` of a sum.
     ExpectedName,
     /// `(` was to stand here, after the word `sum`.
     ExpectedOpen,
-    /// `,` or `)` was to stand here, after a variable.
+    /// `,` or `)` was to stand here, after a variable; or `,`, after that of a sum.
     ExpectedComma,
     /// `=` was to stand here, after the left access; or `(` or `=` after its name.
     ExpectedEquals,
-    /// `(` stands where a factor is expected.
-    Parenthesis,
-    /// The word `sum` stands where a factor is expected.
-    SumForm,
     /// `(` opens more parentheses and sums within each other than a statement may have.
     TooDeep,
     /// A decimal above 2^64-1 stands where a factor is expected.

@@ -18,8 +18,6 @@ fn note_text(kind: NoteKind) -> &'static str
         NoteKind::ExpectedOpen => "ExpectedOpen",
         NoteKind::ExpectedComma => "ExpectedComma",
         NoteKind::ExpectedEquals => "ExpectedEquals",
-        NoteKind::Parenthesis => "Parenthesis",
-        NoteKind::SumForm => "SumForm",
         NoteKind::TooDeep => "TooDeep",
         NoteKind::NumberTooLarge => "NumberTooLarge",
         NoteKind::ExpectedFactor => "ExpectedFactor",
