@@ -3,6 +3,7 @@ use Rattle.std.proofs.Common.{◌≡◌, refl, List, [], ◌∷◌, codes}
 use Rattle.std.specs.Prelude.{ℕ, Option, Some, None}
 use Rattle.clap.proofs.OnLiterals.{clap_on_literals}
 use Rattle.words.specs.Asked.{asked_of}
+use Rattle.words.specs.declared.asking.Lowering.TheVariants.{Plain, Fused}
 use Rattle.words.specs.declared.asking.Options.{Options}
 use Rattle.words.specs.declared.asking.Command.{Command}
 use Rattle.words.specs.declared.asking.Command.TheVariants.{Check, Lower, Streams, Step, Moment, Run, Size, Large}
@@ -11,7 +12,7 @@ abbrev step_p : List (List ℕ) → List (List ℕ)
 step_p more = codes "step" ∷ codes "p.sam" ∷ more
 
 abbrev plain : Options
-plain = record { capacity = None; own = []; schedule = None }
+plain = record { lowering = Plain; capacity = None; own = []; schedule = None }
 
 abbrev asks_step : Options → Option Command
 asks_step options = Some (Step (codes "p.sam") options)
@@ -28,11 +29,11 @@ checks : asked_of (codes "check" ∷ codes "p.sam" ∷ []) ≡ Some (Check (code
 unfolding clap_on_literals
 checks = refl
 
-lowers : asked_of (codes "lower" ∷ codes "p.sam" ∷ []) ≡ Some (Lower (codes "p.sam"))
+lowers : asked_of (codes "lower" ∷ codes "p.sam" ∷ []) ≡ Some (Lower (codes "p.sam") Plain)
 unfolding clap_on_literals
 lowers = refl
 
-streams : asked_of (codes "streams" ∷ codes "p.sam" ∷ []) ≡ Some (Streams (codes "p.sam"))
+streams : asked_of (codes "streams" ∷ codes "p.sam" ∷ []) ≡ Some (Streams (codes "p.sam") Plain)
 unfolding clap_on_literals
 streams = refl
 
@@ -60,11 +61,11 @@ unknown_command : asked_of (codes "walk" ∷ codes "p.sam" ∷ []) ≡ None
 unfolding clap_on_literals
 unknown_command = refl
 
-runs : run_p [] ≡ Some (Run (codes "p.sam") None)
+runs : run_p [] ≡ Some (Run (codes "p.sam") Plain None)
 unfolding clap_on_literals
 runs = refl
 
-sizes : asked_of (codes "size" ∷ codes "p.sam" ∷ []) ≡ Some (Size (codes "p.sam"))
+sizes : asked_of (codes "size" ∷ codes "p.sam" ∷ []) ≡ Some (Size (codes "p.sam") Plain)
 unfolding clap_on_literals
 sizes = refl
 
@@ -128,7 +129,7 @@ check_has_no_option : asked_of (codes "check" ∷ codes "p.sam" ∷ codes "--cap
 unfolding clap_on_literals
 check_has_no_option = refl
 
-run_in_room : run_p (codes "--capacity=4" ∷ []) ≡ Some (Run (codes "p.sam") (Some 4))
+run_in_room : run_p (codes "--capacity=4" ∷ []) ≡ Some (Run (codes "p.sam") Plain (Some 4))
 unfolding clap_on_literals
 run_in_room = refl
 
@@ -143,6 +144,52 @@ run_has_no_schedule = refl
 run_capacity_0 : run_p (codes "--capacity=0" ∷ []) ≡ None
 unfolding clap_on_literals
 run_capacity_0 = refl
+
+-- ---- the flag
+
+lowers_fused : asked_of (codes "lower" ∷ codes "p.sam" ∷ codes "--fused" ∷ []) ≡ Some (Lower (codes "p.sam") Fused)
+unfolding clap_on_literals
+lowers_fused = refl
+
+streams_fused : asked_of (codes "--fused" ∷ codes "streams" ∷ codes "p.sam" ∷ []) ≡ Some (Streams (codes "p.sam") Fused)
+unfolding clap_on_literals
+streams_fused = refl
+
+steps_fused : asked_of (step_p (codes "--fused" ∷ codes "--capacity=1" ∷ [])) ≡ asks_step (record plain { lowering = Fused; capacity = Some 1 })
+unfolding clap_on_literals
+steps_fused = refl
+
+moment_fused : asked_of (codes "moment" ∷ codes "--fused" ∷ codes "p.sam" ∷ []) ≡ Some (Moment (codes "p.sam") (record plain { lowering = Fused }))
+unfolding clap_on_literals
+moment_fused = refl
+
+runs_fused : run_p (codes "--fused" ∷ codes "--capacity=4" ∷ []) ≡ Some (Run (codes "p.sam") Fused (Some 4))
+unfolding clap_on_literals
+runs_fused = refl
+
+sizes_fused : asked_of (codes "size" ∷ codes "p.sam" ∷ codes "--fused" ∷ []) ≡ Some (Size (codes "p.sam") Fused)
+unfolding clap_on_literals
+sizes_fused = refl
+
+check_has_no_flag : asked_of (codes "check" ∷ codes "p.sam" ∷ codes "--fused" ∷ []) ≡ None
+unfolding clap_on_literals
+check_has_no_flag = refl
+
+large_has_no_flag : asked_of (codes "large" ∷ codes "3" ∷ codes "--fused" ∷ []) ≡ None
+unfolding clap_on_literals
+large_has_no_flag = refl
+
+flag_twice : asked_of (step_p (codes "--fused" ∷ codes "--fused" ∷ [])) ≡ None
+unfolding clap_on_literals
+flag_twice = refl
+
+flag_has_no_value : asked_of (step_p (codes "--fused=true" ∷ [])) ≡ None
+unfolding clap_on_literals
+flag_has_no_value = refl
+
+flag_beside_another_option : asked_of (codes "lower" ∷ codes "p.sam" ∷ codes "--fused" ∷ codes "--capacity=1" ∷ []) ≡ None
+unfolding clap_on_literals
+flag_beside_another_option = refl
 
 -- ---- bounds
 

@@ -6,6 +6,8 @@ use Rattle.sam_base.specs.declared.TheConstants.{CAPACITY_MOST, LARGE_MOST}
 use Rattle.sam_text.specs.Numbers.{decimal, is_decimal}
 use Rattle.words.specs.declared.TheConstants.{CHANNEL_MOST}
 use Rattle.words.specs.Line.{Given, given_of}
+use Rattle.words.specs.declared.asking.Lowering.{Lowering}
+use Rattle.words.specs.declared.asking.Lowering.TheVariants.{Plain, Fused}
 use Rattle.words.specs.declared.asking.Options.{Options}
 use Rattle.words.specs.declared.asking.Command.{Command}
 use Rattle.words.specs.declared.asking.Command.TheVariants.{Check, Lower, Streams, Step, Moment, Run, Size, Large}
@@ -56,10 +58,15 @@ abbrev pub given_or : {A : Type 0} → A → (List ℕ → Option A) → Option 
 given_or other read None = Some other
 given_or other read (Some text) = read text
 
-abbrev pub options_with : Option (List ℕ) → Option (Option ℕ) → Option (List (ℕ × ℕ)) → Option Options
-options_with schedule None own = None
-options_with schedule (Some capacity) None = None
-options_with schedule (Some capacity) (Some own) = Some (record { capacity = capacity; own = own; schedule = schedule })
+-- which lowering makes the graph
+abbrev pub lowering_of : Given → Lowering
+lowering_of g = if g.fused then Fused else Plain
+
+abbrev pub options_with : Given → Option (Option ℕ) → Option (List (ℕ × ℕ)) → Option Options
+options_with g None own = None
+options_with g (Some capacity) None = None
+options_with g (Some capacity) (Some own) =
+    Some (record { lowering = lowering_of g; capacity = capacity; own = own; schedule = g.schedule })
 
 -- the capacity of all channels, if one is given
 abbrev pub all_capacity : Given → Option (Option ℕ)
@@ -67,16 +74,21 @@ all_capacity g = given_or None (λ text. option_map Some (capacity_of text)) g.c
 
 -- what the options say of a run
 abbrev pub options_of : Given → Option Options
-options_of g = options_with g.schedule (all_capacity g) (given_or [] pairs_of g.of)
+options_of g = options_with g (all_capacity g) (given_or [] pairs_of g.of)
 
-abbrev pub has_options : Given → Bool
-has_options g = is_some g.capacity || (is_some g.of || is_some g.schedule)
+-- an option that has a value is given
+abbrev pub has_values : Given → Bool
+has_values g = is_some g.capacity || (is_some g.of || is_some g.schedule)
+
+-- this, for a command that has no option but the flag
+abbrev pub without_values : {A : Type 0} → Given → Option A → Option A
+without_values g asked = if has_values g then None else asked
 
 -- this, for a command that has no options
 abbrev pub without_options : {A : Type 0} → Given → Option A → Option A
-without_options g asked = if has_options g then None else asked
+without_options g asked = if g.fused then None else without_values g asked
 
--- what `--capacity` says, where it is the only option
+-- what `--capacity` says, where it is the only option that has a value
 abbrev pub capacity_alone : Given → Option (Option ℕ)
 capacity_alone g = if is_some g.of || is_some g.schedule then None else all_capacity g
 
@@ -86,12 +98,12 @@ capacity_alone g = if is_some g.of || is_some g.schedule then None else all_capa
 abbrev pub command_of : Given → Option Command
 command_of g =
     if bytes_eq g.command (codes "check") then without_options g (Some (Check g.subject))
-    else if bytes_eq g.command (codes "lower") then without_options g (Some (Lower g.subject))
-    else if bytes_eq g.command (codes "streams") then without_options g (Some (Streams g.subject))
+    else if bytes_eq g.command (codes "lower") then without_values g (Some (Lower g.subject (lowering_of g)))
+    else if bytes_eq g.command (codes "streams") then without_values g (Some (Streams g.subject (lowering_of g)))
     else if bytes_eq g.command (codes "step") then option_map (Step g.subject) (options_of g)
     else if bytes_eq g.command (codes "moment") then option_map (Moment g.subject) (options_of g)
-    else if bytes_eq g.command (codes "run") then option_map (Run g.subject) (capacity_alone g)
-    else if bytes_eq g.command (codes "size") then without_options g (Some (Size g.subject))
+    else if bytes_eq g.command (codes "run") then option_map (Run g.subject (lowering_of g)) (capacity_alone g)
+    else if bytes_eq g.command (codes "size") then without_values g (Some (Size g.subject (lowering_of g)))
     else if bytes_eq g.command (codes "large") then without_options g (option_map Large (bounded_number 1 LARGE_MOST g.subject))
     else None
 
@@ -112,7 +124,7 @@ pub record HasCapacities (options : Options) : Type 0 where
 abbrev pub IsInBounds : Command → Type 0
 IsInBounds (Step program options) = HasCapacities options
 IsInBounds (Moment program options) = HasCapacities options
-IsInBounds (Run program capacity) = IfSome capacity IsCapacityGiven
+IsInBounds (Run program lowering capacity) = IfSome capacity IsCapacityGiven
 IsInBounds (Large number) = (1 ≤ number) × (number ≤ LARGE_MOST)
 IsInBounds _ = Unit {0}
 

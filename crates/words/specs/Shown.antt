@@ -14,4 +14,5 @@ given_by w = record {
   capacity = text_in w.capacity;
   of = text_in w.of;
   schedule = text_in w.schedule;
+  fused = w.fused;
 }

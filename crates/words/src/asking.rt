@@ -2,8 +2,8 @@
 
 ghost use Rattle.std.specs.Prelude.{◌≡◌, ◌≤◌, [], map, string_bytes, option_map, Some, None, IfOk, IfSome, All};
 ghost use Rattle.clap.specs.Words.{rows_of, found_of};
-ghost use Rattle.words.specs.Line.{given_in};
-ghost use Rattle.words.specs.Asked.{Answers, asked_of, command_of, options_of, has_options, without_options, given_or};
+ghost use Rattle.words.specs.Line.{given_in, is_true_text};
+ghost use Rattle.words.specs.Asked.{Answers, asked_of, command_of, options_of, has_values, without_values, without_options, given_or, lowering_of};
 ghost use Rattle.words.specs.Asked.{bounded_number, capacity_of, capacity_alone, pairs_of};
 ghost use Rattle.words.specs.Asked.{IsCapacityGiven, HasCapacities, IsInBounds};
 ghost use Rattle.words.specs.Shown.{given_by, text_in};
@@ -21,6 +21,15 @@ pub enum Refusal {
     OutOfMemory,
 }
 
+/// How a program becomes a graph.
+#[derive(Clone, Copy, Debug, Drop, PartialEq, Eq)]
+pub enum Lowering {
+    /// Its terms are joined where each is finished.
+    Plain,
+    /// Its terms are united at the scanners, level by level.
+    Fused,
+}
+
 /// What is asked. A `program` is the name of a program file.
 #[derive(Drop)]
 pub enum Command {
@@ -31,10 +40,12 @@ pub enum Command {
     /// The graph that the program is lowered to.
     Lower {
         program: Name,
+        lowering: Lowering,
     },
     /// The whole stream of each channel.
     Streams {
         program: Name,
+        lowering: Lowering,
     },
     /// The tensor that the program denotes, as the machine computes it.
     Step {
@@ -50,11 +61,13 @@ pub enum Command {
     /// 1 to `CAPACITY_MOST`, if one is given.
     Run {
         program: Name,
+        lowering: Lowering,
         capacity: Option<u32>,
     },
     /// The least capacity under which a run of the program's graph finishes.
     Size {
         program: Name,
+        lowering: Lowering,
     },
     /// The generated workload of this number, from 1 to `LARGE_MOST`.
     Large {
@@ -65,6 +78,7 @@ pub enum Command {
 /// What the options say of a run.
 #[derive(Drop)]
 pub struct Options {
+    pub lowering: Lowering,
     /// The capacity of every channel that has none of its own, from 1 to `CAPACITY_MOST`; `None` is no limit.
     pub capacity: Option<u32>,
     /// Channels with capacities of their own, each channel once.
@@ -81,6 +95,17 @@ pub struct Words<'a> {
     capacity: Option<&'a str>,
     of: Option<&'a str>,
     schedule: Option<&'a str>,
+    fused: bool,
+}
+
+/// Whether `clap` tells that a flag is given.
+fn is_true(text: Option<&str>) -> bool
+    ensures { result ≡ is_true_text (text_in text.entry) }
+{
+    match text {
+        Some(text) => text == "true",
+        None => false,
+    }
 }
 
 fn words_in<'a>(matches: &ArgMatches<'a>) -> Words<'a>
@@ -92,13 +117,24 @@ fn words_in<'a>(matches: &ArgMatches<'a>) -> Words<'a>
         capacity: text(matches, "capacity"),
         of: text(matches, "of"),
         schedule: text(matches, "schedule"),
+        fused: is_true(text(matches, "fused")),
     }
 }
 
-fn has_options(words: Words) -> bool
-    ensures { result ≡ has_options (given_by words.entry) }
+fn has_values(words: Words) -> bool
+    ensures { result ≡ has_values (given_by words.entry) }
 {
     words.capacity.is_some() || words.of.is_some() || words.schedule.is_some()
+}
+
+fn chosen_lowering(words: Words) -> Lowering
+    ensures { result ≡ lowering_of (given_by words.entry) }
+{
+    if words.fused {
+        Lowering::Fused
+    } else {
+        Lowering::Plain
+    }
 }
 
 /// The capacity of all channels, if one is given.
@@ -159,13 +195,14 @@ fn read_options(alloc: Global, words: Words) -> Result<Options, Refusal>
     let own = channels(alloc, words.of)?;
     let schedule = name_if(alloc, words.schedule)?;
     Ok(Options {
+        lowering: chosen_lowering(words),
         capacity,
         own,
         schedule,
     })
 }
 
-/// The capacity of a command that has no other option.
+/// The capacity of a command that has no other option with a value.
 fn capacity_alone(words: Words) -> Result<Option<u32>, Refusal>
     ensures read { Answers (capacity_alone (given_by words.entry)) result }
     ensures bounded { IfOk result (λ capacity. IfSome capacity IsCapacityGiven) }
@@ -177,14 +214,25 @@ fn capacity_alone(words: Words) -> Result<Option<u32>, Refusal>
     }
 }
 
-/// The program of a command that has no options.
+/// The program of a command that has no option but the flag.
 fn program_alone(alloc: Global, words: Words) -> Result<Name, Refusal>
-    ensures { let given = given_by words.entry in Answers (without_options given (Some given.subject)) result }
+    ensures { let given = given_by words.entry in Answers (without_values given (Some given.subject)) result }
 {
-    if has_options(words) {
+    if has_values(words) {
         Err(Refusal::Usage)
     } else {
         name(alloc, words.subject)
+    }
+}
+
+/// The program of a command that has no options.
+fn bare_program(alloc: Global, words: Words) -> Result<Name, Refusal>
+    ensures { let given = given_by words.entry in Answers (without_options given (Some given.subject)) result }
+{
+    if words.fused {
+        Err(Refusal::Usage)
+    } else {
+        program_alone(alloc, words)
     }
 }
 
@@ -193,7 +241,7 @@ fn number_alone(words: Words) -> Result<u32, Refusal>
     ensures read { let given = given_by words.entry in Answers (without_options given (bounded_number 1 LARGE_MOST given.subject)) result }
     ensures bounded { IfOk result (λ number. (1 ≤ number) × (number ≤ LARGE_MOST)) }
 {
-    if has_options(words) {
+    if words.fused || has_values(words) {
         return Err(Refusal::Usage);
     }
     match number_in(1, LARGE_MOST, words.subject) {
@@ -208,13 +256,15 @@ fn read_command(alloc: Global, words: Words) -> Result<Command, Refusal>
 {
     match words.command {
         "check" => Ok(Command::Check {
-            program: program_alone(alloc, words)?,
+            program: bare_program(alloc, words)?,
         }),
         "lower" => Ok(Command::Lower {
             program: program_alone(alloc, words)?,
+            lowering: chosen_lowering(words),
         }),
         "streams" => Ok(Command::Streams {
             program: program_alone(alloc, words)?,
+            lowering: chosen_lowering(words),
         }),
         "step" => Ok(Command::Step {
             program: name(alloc, words.subject)?,
@@ -226,10 +276,12 @@ fn read_command(alloc: Global, words: Words) -> Result<Command, Refusal>
         }),
         "run" => Ok(Command::Run {
             program: name(alloc, words.subject)?,
+            lowering: chosen_lowering(words),
             capacity: capacity_alone(words)?,
         }),
         "size" => Ok(Command::Size {
             program: program_alone(alloc, words)?,
+            lowering: chosen_lowering(words),
         }),
         "large" => Ok(Command::Large {
             number: number_alone(words)?,
@@ -241,8 +293,8 @@ fn read_command(alloc: Global, words: Words) -> Result<Command, Refusal>
 /// What the words ask for, where they are not refused.
 ///
 /// `Usage` is answered exactly where `clap` reads no command with its subject, or a rule refuses what it reads: an unknown command,
-/// an option that doesn't belong to the command or whose value is out of form or bounds, a channel that is given two capacities, or a
-/// number of `large` out of bounds.
+/// an option or a flag that doesn't belong to the command, an option whose value is out of form or bounds, a channel that is given
+/// two capacities, or a number of `large` out of bounds.
 pub fn read_words(alloc: Global, words: &[String]) -> Result<Command, Refusal>
     ensures read { Answers (asked_of (map string_bytes words.now)) result }
     ensures bounded { IfOk result IsInBounds }

@@ -5,7 +5,7 @@ mod asking;
 mod line;
 mod numbers;
 
-pub use asking::{Command, Options, Refusal, read_words};
+pub use asking::{Command, Lowering, Options, Refusal, read_words};
 
 /// The largest number that names a channel.
 const CHANNEL_MOST: u32 = 4_294_967_295;

@@ -2,12 +2,12 @@
 
 ghost use Rattle.std.specs.Prelude.{◌≡◌, IfOk, map, string_bytes, option_map, false};
 ghost use Rattle.clap.specs.Words.{app_of, rule_of, kind_of, found_of, rows_of, first_of};
-ghost use Rattle.words.specs.Line.{command_line, place_rule, option_rule};
+ghost use Rattle.words.specs.Line.{command_line, place_rule, option_rule, flag_rule};
 ghost use Rattle.words.specs.Reads.{Reads};
 
 use crate::asking::Refusal;
 use clap::error::ErrorKind;
-use clap::{Arg, ArgMatches, Command};
+use clap::{Arg, ArgAction, ArgMatches, Command};
 use std::alloc::{AllocError, Global};
 
 /// A word that is no option, and has to be there.
@@ -26,7 +26,15 @@ fn option<'a>(alloc: Global, name: &'a str) -> Arg<'a>
     Arg::new(alloc, name).long(name)
 }
 
-/// The command line: two places and three options.
+/// An option without a value.
+fn flag<'a>(alloc: Global, name: &'a str) -> Arg<'a>
+    ensures rule { rule_of result ≡ flag_rule name.entry.now }
+    ensures local { result.global ≡ false }
+{
+    Arg::new(alloc, name).long(name).action(ArgAction::SetTrue)
+}
+
+/// The command line: two places, three options with a value and a flag.
 fn line<'a>(alloc: Global) -> Result<Command<'a>, AllocError>
     ensures { IfOk result (λ command. app_of command ≡ command_line) }
 {
@@ -36,7 +44,8 @@ fn line<'a>(alloc: Global) -> Result<Command<'a>, AllocError>
         .arg(place(alloc, "SUBJECT"))?
         .arg(option(alloc, "capacity"))?
         .arg(option(alloc, "of"))?
-        .arg(option(alloc, "schedule"))
+        .arg(option(alloc, "schedule"))?
+        .arg(flag(alloc, "fused"))
 }
 
 /// What `clap` reads of the words. All but its matches and want of memory is `Usage`, its help among them.

@@ -11,4 +11,5 @@ returns c =
     let at_2 = c.in_ok-arg-2.ensures.shape c.place-2.ensures.local ∙ ap₂ with_rule at_1 c.place-2.ensures.rule in
     let at_3 = c.in_ok-arg-3.ensures.shape c.option.ensures.local ∙ ap₂ with_rule at_2 c.option.ensures.rule in
     let at_4 = c.in_ok-arg-4.ensures.shape c.option-2.ensures.local ∙ ap₂ with_rule at_3 c.option-2.ensures.rule in
-    IfOk-weaker c.arg-5.result _ _ (λ command h. h.shape c.option-3.ensures.local ∙ ap₂ with_rule at_4 c.option-3.ensures.rule) c.arg-5.ensures
+    let at_5 = c.in_ok-arg-5.ensures.shape c.option-3.ensures.local ∙ ap₂ with_rule at_4 c.option-3.ensures.rule in
+    IfOk-weaker c.arg-6.result _ _ (λ command h. h.shape c.flag.ensures.local ∙ ap₂ with_rule at_5 c.flag.ensures.rule) c.arg-6.ensures
