@@ -6,7 +6,6 @@ use Rattle.std.specs.Prelude.{Option}
 use Rattle.sam_model.specs.declared.tensors.Entries.{Entries}
 use Rattle.sam_model.specs.declared.program.Program.{Program}
 use Rattle.sam_model.specs.Children.{Ranked}
-use Rattle.custard_lower.specs.Lowered.{Lowered, storages_of}
 use Rattle.inputs.specs.Tensors.{AreStored}
 use Rattle.graph.specs.declared.graphs.Graph.{Graph}
 use Rattle.plays.specs.Net.{Net, State, Finished, start, sent}
@@ -55,14 +54,12 @@ module _ (storages : List Ranked) (g : Graph) (s : State) where
       lines-alike (length g.channels) (sent (net_of storages g) s) (whole_stream storages g)
       (all-is-sent storages g s runnable.formed runnable.consistent finished)
 
-module _ (p : Program) (g : Graph) (entries : List Entries) (storages : List Ranked) (lowered : Lowered p g) (stored : AreStored p.tensors entries storages) where
-  -- over what is stored, the program's own graph gives the program's own texts
-  pub streams-of-program : streams_text storages g ≡ streams_of p entries
+module _ (p : Program) (g : Graph) (entries : List Entries) (storages : List Ranked) (stored : AreStored p.tensors entries storages) where
+  -- over what is stored, a graph gives the texts of the program's entries
+  pub streams-of-program : streams_text storages g ≡ streams_of p g entries
   unfolding streams_of
-  streams-of-program = ap (λ (s : List Ranked). streams_text s g) stored.are_stored ∙ ap (streams_text (storages_of p entries)) lowered.is_low
+  streams-of-program = ap (λ (s : List Ranked). streams_text s g) stored.are_stored
 
-  pub moment-of-program : (caps : List (Option ℕ)) (schedule : List ℕ) → moment_text storages g caps schedule ≡ moment_of p entries caps schedule
+  pub moment-of-program : (caps : List (Option ℕ)) (schedule : List ℕ) → moment_text storages g caps schedule ≡ moment_of p g entries caps schedule
   unfolding moment_of
-  moment-of-program caps schedule =
-      ap (λ (s : List Ranked). moment_text s g caps schedule) stored.are_stored
-      ∙ ap (λ (h : Graph). moment_text (storages_of p entries) h caps schedule) lowered.is_low
+  moment-of-program caps schedule = ap (λ (s : List Ranked). moment_text s g caps schedule) stored.are_stored

@@ -11,7 +11,7 @@ use Rattle.graph.specs.declared.graphs.Graph.{Graph}
 use Rattle.graph.specs.WholeStreams.{whole_stream}
 use Rattle.plays.specs.Net.{State, start, play, sent}
 use Rattle.stepper.specs.NetOf.{net_of, rooms_of}
-use Rattle.custard_lower.specs.Lowered.{low, storages_of}
+use Rattle.custard_lower.specs.Lowered.{storages_of}
 
 -- each token behind a space
 abbrev pub spaced_tokens : List Token → List ℕ
@@ -43,10 +43,10 @@ module _ (storages : List Ranked) (g : Graph) where
   beginnings_text caps schedule =
       lines_of (length g.channels) (λ c. take (length (sent (net_of storages g) (moment caps schedule) c)) (whole_stream storages g c))
 
-module _ (p : Program) (entries : List Entries) where
-  -- the same two of a program's graph over the program's entries
+module _ (p : Program) (g : Graph) (entries : List Entries) where
+  -- the same two over a program's entries
   unfoldable pub streams_of : List ℕ
-  streams_of = streams_text (storages_of p entries) (low p)
+  streams_of = streams_text (storages_of p entries) g
 
   unfoldable pub moment_of : List (Option ℕ) → List ℕ → List ℕ
-  moment_of caps schedule = moment_text (storages_of p entries) (low p) caps schedule
+  moment_of caps schedule = moment_text (storages_of p entries) g caps schedule

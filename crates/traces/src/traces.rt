@@ -5,7 +5,6 @@ ghost use Rattle.sam_model.specs.declared.tensors.Entries.{Entries};
 ghost use Rattle.sam_model.specs.declared.program.Program.{Program};
 ghost use Rattle.stepper.specs.Capacity.{CapacitiesFor};
 ghost use Rattle.machines.specs.Runnable.{Runnable};
-ghost use Rattle.custard_lower.specs.Lowered.{Lowered};
 ghost use Rattle.inputs.specs.Tensors.{AreStored};
 ghost use Rattle.traces.specs.Traces.{streams_text, moment_text, streams_of, moment_of};
 
@@ -21,8 +20,8 @@ use stepper::{Capacities, Ending, KeepAll};
 pub fn streams(alloc: Global, g: &Graph, storages: &[Storage]) -> Result<Name, AllocError>
     requires { Runnable storages.now g.now }
     ensures of_graph { IfOk result (λ text. text ≡ streams_text storages.now g.now) }
-    ensures of_program { (p : Program) (entries : List Entries) → Lowered p g.now → AreStored p.tensors entries storages.now →
-        IfOk result (λ text. text ≡ streams_of p entries) }
+    ensures of_program { (p : Program) (entries : List Entries) → AreStored p.tensors entries storages.now →
+        IfOk result (λ text. text ≡ streams_of p g.now entries) }
 {
     let channels = g.channels.len();
     let mut machine = machine_for(alloc, g, storages, &unbounded(alloc, channels)?)?;
@@ -47,8 +46,8 @@ pub fn moment(
     requires capacities { CapacitiesFor (length g.now.channels) capacities.now.each }
     requires schedule { All (λ block. block < length g.now.blocks) schedule.now }
     ensures of_graph { IfOk result (λ text. text ≡ moment_text storages.now g.now capacities.now.each schedule.now) }
-    ensures of_program { (p : Program) (entries : List Entries) → Lowered p g.now → AreStored p.tensors entries storages.now →
-        IfOk result (λ text. text ≡ moment_of p entries capacities.now.each schedule.now) }
+    ensures of_program { (p : Program) (entries : List Entries) → AreStored p.tensors entries storages.now →
+        IfOk result (λ text. text ≡ moment_of p g.now entries capacities.now.each schedule.now) }
 {
     let channels = g.channels.len() as u32;
     let mut machine = machine_for(alloc, g, storages, capacities)?;

@@ -18,10 +18,10 @@ returns-clause-of_graph c =
     IfOk-weaker c.channel_lines.result _ _ (λ text is. is ∙ told) c.channel_lines.ensures
 
 pub returns-clause-of_program : goal.returns-clause-of_program
-returns-clause-of_program c = λ p entries lowered stored.
+returns-clause-of_program c = λ p entries stored.
     let of_graph = returns-clause-of_graph c in
     IfOk-weaker c.channel_lines.result _ _
     (λ text is.
     is
-    ∙ moment-of-program p c.args.g.now entries c.args.storages.now lowered stored c.args.capacities.now.each c.args.schedule.now)
+    ∙ moment-of-program p c.args.g.now entries c.args.storages.now stored c.args.capacities.now.each c.args.schedule.now)
     of_graph

@@ -29,8 +29,8 @@ returns-clause-of_graph c =
     IfOk-weaker c.channel_lines.result _ _ (λ text is. is ∙ told ∙ all-lines storages g gone.0 c.requires finished) c.channel_lines.ensures
 
 pub returns-clause-of_program : goal.returns-clause-of_program
-returns-clause-of_program c = λ p entries lowered stored.
+returns-clause-of_program c = λ p entries stored.
     let of_graph = returns-clause-of_graph c in
     IfOk-weaker c.channel_lines.result _ _
-    (λ text is. is ∙ streams-of-program p c.args.g.now entries c.args.storages.now lowered stored)
+    (λ text is. is ∙ streams-of-program p c.args.g.now entries c.args.storages.now stored)
     of_graph
