@@ -37,8 +37,8 @@ one_setup g options =
     one_followed (gives capacities) (with_schedule (length g.blocks) options.schedule) (one_gives capacities)
     (one_with_schedule (length g.blocks) options.schedule)
 
-pub one_run : (p : Program) (es : List Entries) (caps : List (Option ℕ)) → AtMostOne (run_part p es caps)
-one_run p es caps m a b due other ra rb = runs-to-one-answer p es caps a b ra rb
+pub one_run : (p : Program) (g : Graph) (es : List Entries) (caps : List (Option ℕ)) → AtMostOne (run_part p g es caps)
+one_run p g es caps m a b due other ra rb = runs-to-one-answer p g es caps a b ra rb
 
-pub one_size : (p : Program) (es : List Entries) → AtMostOne (size_part p es)
-one_size p es m a b due other sa sb = sizes-to-one-answer p es a b sa sb
+pub one_size : (p : Program) (g : Graph) (es : List Entries) → AtMostOne (size_part p g es)
+one_size p g es m a b due other sa sb = sizes-to-one-answer p g es a b sa sb

@@ -1,5 +1,5 @@
 -- The laws of runs, from the laws of plays.
-use Rattle.std.proofs.Common.{◌≡◌, ◌∙◌, ℕ, List, [], ◌∷◌, length, true, ap, sym, subst, refl, Ok, Err}
+use Rattle.std.proofs.Common.{◌≡◌, ◌∙◌, ℕ, List, [], ◌∷◌, length, ap, sym, subst, refl, Ok, Err}
 use Rattle.std.specs.Prelude.{Option, None, Result}
 use mathlib.Core.List.{map}
 use Rattle.sam_base.specs.declared.faults.Fault.{Fault}
@@ -8,7 +8,6 @@ use Rattle.sam_base.specs.declared.faults.Waiting.{Waiting}
 use Rattle.sam_model.specs.declared.tensors.Entries.{Entries}
 use Rattle.sam_model.specs.declared.program.Program.{Program}
 use Rattle.sam_model.specs.Children.{Ranked}
-use Rattle.sam_model.specs.Program.{accepted}
 use Rattle.sam_model.specs.Lists.{below}
 use Rattle.sam_model.specs.Statement.{statement_text}
 use Rattle.graph.specs.declared.graphs.Graph.{Graph}
@@ -20,22 +19,12 @@ use Rattle.stepper.specs.NetOf.{net_of, rooms_of}
 use Rattle.stepper.specs.Endings.{waiting_list, EndsAt}
 use Rattle.stepper.proofs.GraphLaws.{one-end-of-graphs, room-suffices, graphs-are-wired}
 use Rattle.stepper.proofs.Stalling.{none_waiting, some_waiting}
-use Rattle.custard_lower.specs.Lowered.{Lowered, low, storages_of}
-use Rattle.custard_lower.specs.Lowering.{program_draft}
-use Rattle.custard_lower.proofs.draft.SmallGraphs.{small-blocks, small-channels}
-use Rattle.custard_lower.proofs.join.SmallDraft.{small-draft}
-use Rattle.custard_lower.proofs.written.LowGraph.{low-lowered}
+use Rattle.custard_lower.specs.Lowered.{Computes, storages_of}
 use Rattle.machines.proofs.UnboundedRuns.{never-stalls}
 use Rattle.runs.proofs.CapacityLemmas.{unlimited}
 use Rattle.runs.specs.Capacities.{capacity_at}
 use Rattle.runs.specs.Runs.{AnsweredAt}
 use Rattle.runs.specs.Laws.{RunsToOneAnswer, RunsToSomeAnswer, AmpleRoomFinishes, UnlimitedFinishes}
-
--- the graph of an accepted program keeps what is promised of it
-low-keeps : (p : Program) → accepted p ≡ true → Lowered p (low p)
-low-keeps p is_accepted =
-    let small = small-draft p is_accepted in
-    low-lowered p is_accepted (low p) refl (small-blocks (program_draft p) small) (small-channels (program_draft p) small)
 
 module _ (p : Program) (es : List Entries) (storages : List Ranked) (g : Graph) (caps : List (Option ℕ)) (formed : WellFormed g)
     (consistent : Consistent storages g) where
@@ -69,32 +58,29 @@ module _ (p : Program) (es : List Entries) (storages : List Ranked) (g : Graph) 
   finished_at end (Ok text) finished (other, is) = ap Ok is
   finished_at end (Err f) finished (unfinished, is) = absurd (unfinished finished)
 
--- ---- of a program's graph
+-- ---- over the entries of a program
 
-module _ (p : Program) (es : List Entries) (is_accepted : accepted p ≡ true) (each : length es ≡ length p.tensors) where
-  pub low-formed : WellFormed (low p)
-  low-formed = (low-keeps p is_accepted).formed
-
-  pub low-consistent : Consistent (storages_of p es) (low p)
-  low-consistent = ((low-keeps p is_accepted).carries es each).consistent
+module _ (p : Program) (g : Graph) (es : List Entries) (computes : Computes p g) (each : length es ≡ length p.tensors) where
+  pub consistent-over : Consistent (storages_of p es) g
+  consistent-over = (computes.carries es each).consistent
 
 pub runs-to-one-answer : RunsToOneAnswer
-runs-to-one-answer p es caps a b ra rb =
-    let formed = low-formed p es ra.is_accepted ra.each in
-    let consistent = low-consistent p es ra.is_accepted ra.each in
-    let same = same_end p es (storages_of p es) (low p) caps formed consistent ra.end rb.end ra.ends rb.ends in
-    same_at p es (storages_of p es) (low p) caps formed consistent rb.end a b
-    (subst (λ end. AnsweredAt p es (net_of (storages_of p es) (low p)) end a) same ra.answered) rb.answered
+runs-to-one-answer p g es caps a b ra rb =
+    let formed = ra.computes.formed in
+    let consistent = consistent-over p g es ra.computes ra.each in
+    let same = same_end p es (storages_of p es) g caps formed consistent ra.end rb.end ra.ends rb.ends in
+    same_at p es (storages_of p es) g caps formed consistent rb.end a b
+    (subst (λ end. AnsweredAt p es (net_of (storages_of p es) g) end a) same ra.answered) rb.answered
 
 pub runs-to-some-answer : RunsToSomeAnswer
-runs-to-some-answer p es caps is_accepted each =
-    let formed = low-formed p es is_accepted each in
-    let consistent = low-consistent p es is_accepted each in
-    let end = one-end-of-graphs (storages_of p es) (low p) caps formed consistent in
-    let answer = some_at p es (storages_of p es) (low p) caps formed consistent end.0 end.1 _ refl in (
+runs-to-some-answer p g es caps computes each =
+    let formed = computes.formed in
+    let consistent = consistent-over p g es computes each in
+    let end = one-end-of-graphs (storages_of p es) g caps formed consistent in
+    let answer = some_at p es (storages_of p es) g caps formed consistent end.0 end.1 _ refl in (
       answer.0,
       record {
-        is_accepted = is_accepted;
+        computes = computes;
         each = each;
         end = end.0;
         ends = record { reached = end.1; stuck = end.2 };
@@ -103,18 +89,18 @@ runs-to-some-answer p es caps is_accepted each =
     )
 
 pub ample-room-finishes : AmpleRoomFinishes
-ample-room-finishes p es caps a ample run =
-    let formed = low-formed p es run.is_accepted run.each in
-    let consistent = low-consistent p es run.is_accepted run.each in
-    finished_at p es (storages_of p es) (low p) caps formed consistent run.end a
-    (room-suffices (storages_of p es) (low p) caps run.end formed consistent ample run.ends.reached run.ends.stuck) run.answered
+ample-room-finishes p g es caps a ample run =
+    let formed = run.computes.formed in
+    let consistent = consistent-over p g es run.computes run.each in
+    finished_at p es (storages_of p es) g caps formed consistent run.end a
+    (room-suffices (storages_of p es) g caps run.end formed consistent ample run.ends.reached run.ends.stuck) run.answered
 
 pub unlimited-finishes : UnlimitedFinishes
-unlimited-finishes p es caps a given run =
-    let channels = length (low p).channels in
-    let formed = low-formed p es run.is_accepted run.each in
-    let consistent = low-consistent p es run.is_accepted run.each in
+unlimited-finishes p g es caps a given run =
+    let channels = length g.channels in
+    let formed = run.computes.formed in
+    let consistent = consistent-over p g es run.computes run.each in
     let alike : map (capacity_at None []) (below channels) ≡ caps = cc in
-    finished_at p es (storages_of p es) (low p) caps formed consistent run.end a
-    (never-stalls (storages_of p es) (low p) caps channels run.end formed consistent (sym alike ∙ sym (unlimited None 0 channels))
+    finished_at p es (storages_of p es) g caps formed consistent run.end a
+    (never-stalls (storages_of p es) g caps channels run.end formed consistent (sym alike ∙ sym (unlimited None 0 channels))
     run.ends.reached run.ends.stuck) run.answered

@@ -1,4 +1,4 @@
--- What a run of a program's graph answers, from what the machine leaves.
+-- What a run of a graph that computes a program's tensor answers, from what the machine leaves.
 use Rattle.std.proofs.Common.{◌≡◌, ◌∙◌, ℕ, List, true, ap, sym, subst, Ok, Err}
 use Rattle.std.specs.Prelude.{Option}
 use Rattle.sam_base.specs.declared.faults.Fault.TheVariants.{Stalled}
@@ -14,24 +14,24 @@ use Rattle.plays.specs.Net.{Net, State, Finished}
 use Rattle.stepper.specs.NetOf.{net_of, rooms_of}
 use Rattle.stepper.specs.Endings.{waiting_list, EndsAt, StallsAt}
 use Rattle.expand.proofs.AcceptedTerms.{terms-text}
-use Rattle.custard_lower.specs.Lowered.{Lowered, low, storages_of}
+use Rattle.custard_lower.specs.Lowered.{Computes, storages_of}
 use Rattle.inputs.specs.Tensors.{AreStored}
 use Rattle.machines.proofs.ProgramMachines.{same-net}
 use Rattle.runs.specs.Runs.{RunsTo, LeavesListing}
 
-module _ (p : Program) (g : Graph) (lowered : Lowered p g) (is_accepted : accepted p ≡ true) (es : List Entries)
+module _ (p : Program) (g : Graph) (computes : Computes p g) (is_accepted : accepted p ≡ true) (es : List Entries)
     (storages : List Ranked) (are : AreStored p.tensors es storages) (caps : List (Option ℕ)) where
-  abbrev same : net_of storages g ≡ net_of (storages_of p es) (low p)
-  same = same-net p g lowered es storages are
+  abbrev same : net_of storages g ≡ net_of (storages_of p es) g
+  same = same-net p g computes es storages are
 
   ends_alike : (end : State) → EndsAt (net_of storages g) (rooms_of caps) end →
-      EndsAt (net_of (storages_of p es) (low p)) (rooms_of caps) end
+      EndsAt (net_of (storages_of p es) g) (rooms_of caps) end
   ends_alike end ends = subst (λ (net : Net). EndsAt net (rooms_of caps) end) same ends
 
   -- it stalls
-  pub stalls_with : (list : List Waiting) → StallsAt (net_of storages g) (rooms_of caps) list → RunsTo p es caps (Err (Stalled list))
+  pub stalls_with : (list : List Waiting) → StallsAt (net_of storages g) (rooms_of caps) list → RunsTo p g es caps (Err (Stalled list))
   stalls_with list left = record {
-    is_accepted = is_accepted;
+    computes = computes;
     each = are.each;
     end = left.end;
     ends = ends_alike left.end left.ends;
@@ -43,9 +43,9 @@ module _ (p : Program) (g : Graph) (lowered : Lowered p g) (is_accepted : accept
 
   -- it finishes
   pub finishes_with : (levels : ℕ) (w : Written) (text : List ℕ) → LeavesListing storages g caps levels w →
-      text ≡ result_text p es → RunsTo p es caps (Ok text)
+      text ≡ result_text p es → RunsTo p g es caps (Ok text)
   finishes_with levels w text left is_text = record {
-    is_accepted = is_accepted;
+    computes = computes;
     each = are.each;
     end = left.end;
     ends = ends_alike left.end left.ends;

@@ -1,4 +1,4 @@
--- What the graph of a program leaves, as the text of the result asks for it.
+-- What a graph that computes a program's tensor leaves, as the text of the result asks for it.
 use Rattle.std.proofs.Common.{◌≡◌, ℕ, zero, suc, ◌+◌, ◌≤◌, Bool, true, false, cond, List, [], ◌∷◌, length, refl, sym, ap, subst, ◌∙◌, arith, ltb}
 use Rattle.std.specs.List.{filter, flat_map, list_all, range_with_len}
 use Rattle.std.proofs.lemmas.Bool.Decides.{nat_tests}
@@ -15,7 +15,7 @@ use Rattle.sam_model.specs.Listing.{InRange, listing}
 use Rattle.stream_model.specs.Labels.{result_sizes}
 use Rattle.graph.specs.declared.graphs.Graph.{Graph}
 use Rattle.graph.specs.Writers.{written_listing}
-use Rattle.custard_lower.specs.Lowered.{Carries, Lowered, storages_of, written_of}
+use Rattle.custard_lower.specs.Lowered.{Carries, Computes, storages_of, written_of}
 use Rattle.inputs.specs.Tensors.{AreStored}
 
 -- ---- the entries of a result
@@ -53,11 +53,11 @@ entries_within p es =
     list_all-map {X = List ℕ × ℕ} (λ entry. within (result_sizes p) entry.0) (λ x. (x, den p es x)) (filter (pat p es) (tuples (result_sizes p)))
     ∙ kept_pass (within (result_sizes p)) (pat p es) (tuples (result_sizes p)) (tuples_within (result_sizes p))
 
--- ---- the graph of a program over its stored tensors
+-- ---- such a graph over the stored tensors
 
-module _ (p : Program) (g : Graph) (lowered : Lowered p g) (es : List Entries) (stored : List Ranked) (are : AreStored p.tensors es stored) where
+module _ (p : Program) (g : Graph) (computes : Computes p g) (es : List Entries) (stored : List Ranked) (are : AreStored p.tensors es stored) where
   carries : Carries p g es
-  carries = lowered.carries es are.each
+  carries = computes.carries es are.each
 
   same : written_listing stored g (length p.result.order) ≡ written_of p g es
   same =

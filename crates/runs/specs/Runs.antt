@@ -1,19 +1,18 @@
--- Where a run of a program's graph ends, and what is answered there.
-use Rattle.std.specs.Prelude.{◌≡◌, true, ℕ, List, Option, Result, Ok, Err, length}
+-- Where a run of a graph that computes a program's tensor ends, and what is answered there.
+use Rattle.std.specs.Prelude.{◌≡◌, ℕ, List, Option, Result, Ok, Err, length}
 use Rattle.sam_base.specs.declared.faults.Fault.{Fault}
 use Rattle.sam_base.specs.declared.faults.Fault.TheVariants.{Stalled}
 use Rattle.sam_model.specs.declared.tensors.Entries.{Entries}
 use Rattle.sam_model.specs.declared.tensors.Written.{Written}
 use Rattle.sam_model.specs.declared.program.Program.{Program}
 use Rattle.sam_model.specs.Children.{Ranked}
-use Rattle.sam_model.specs.Program.{accepted}
 use Rattle.sam_model.specs.Statement.{statement_text}
 use Rattle.graph.specs.declared.graphs.Graph.{Graph}
 use Rattle.graph.specs.Writers.{written_listing}
 use Rattle.plays.specs.Net.{Net, State, Finished}
 use Rattle.stepper.specs.NetOf.{net_of, rooms_of}
 use Rattle.stepper.specs.Endings.{waiting_list, EndsAt, StallsAt}
-use Rattle.custard_lower.specs.Lowered.{low, storages_of}
+use Rattle.custard_lower.specs.Lowered.{Computes, storages_of}
 use Rattle.parts.specs.Parts.{Part}
 use Rattle.runs.specs.declared.running.Outcome.{Outcome}
 use Rattle.runs.specs.declared.running.Outcome.TheVariants.{Listing, Waits}
@@ -23,16 +22,16 @@ abbrev pub AnsweredAt : Program → List Entries → Net → State → Result (L
 AnsweredAt p es net end (Ok text) = Finished net end × (text ≡ statement_text p es)
 AnsweredAt p es net end (Err fault) = ¬ Finished net end × (fault ≡ Stalled (waiting_list net end))
 
--- A run of an accepted program's graph over its entries, under these capacities, whatever was played first.
-pub record RunsTo (p : Program) (es : List Entries) (caps : List (Option ℕ)) (answer : Result (List ℕ) Fault) : Type 0 where
-  pub is_accepted : accepted p ≡ true
+-- A run of such a graph over the program's entries, under these capacities, whatever was played first.
+pub record RunsTo (p : Program) (g : Graph) (es : List Entries) (caps : List (Option ℕ)) (answer : Result (List ℕ) Fault) : Type 0 where
+  pub computes : Computes p g
   pub each : length es ≡ length p.tensors
   pub end : State
-  pub ends : EndsAt (net_of (storages_of p es) (low p)) (rooms_of caps) end
-  pub answered : AnsweredAt p es (net_of (storages_of p es) (low p)) end answer
+  pub ends : EndsAt (net_of (storages_of p es) g) (rooms_of caps) end
+  pub answered : AnsweredAt p es (net_of (storages_of p es) g) end answer
 
-abbrev pub run_part : Program → List Entries → List (Option ℕ) → Part (List ℕ)
-run_part p es caps told answer = RunsTo p es caps answer
+abbrev pub run_part : Program → Graph → List Entries → List (Option ℕ) → Part (List ℕ)
+run_part p g es caps told answer = RunsTo p g es caps answer
 
 -- ---- as the machine leaves it
 

@@ -1,5 +1,5 @@
--- How much room a run of a program's graph needs, and what is answered of that.
-use Rattle.std.specs.Prelude.{◌≡◌, ◌++◌, true, ℕ, List, codes, decimal, Result, Ok, Err, length}
+-- How much room a run of a graph that computes a program's tensor needs, and what is answered of that.
+use Rattle.std.specs.Prelude.{◌≡◌, ◌++◌, ℕ, List, codes, decimal, Result, Ok, Err, length}
 use Rattle.sam_base.specs.declared.TheConstants.{CAPACITY_MOST}
 use Rattle.sam_base.specs.declared.faults.Fault.{Fault}
 use Rattle.sam_base.specs.declared.faults.Fault.TheVariants.{Stalled}
@@ -7,12 +7,12 @@ use Rattle.sam_base.specs.declared.faults.Waiting.{Waiting}
 use Rattle.sam_base.specs.Texts.{text_line, waiting_lines}
 use Rattle.sam_model.specs.declared.tensors.Entries.{Entries}
 use Rattle.sam_model.specs.declared.program.Program.{Program}
-use Rattle.sam_model.specs.Program.{accepted}
+use Rattle.graph.specs.declared.graphs.Graph.{Graph}
 use Rattle.stepper.specs.NetOf.{net_of}
 use Rattle.sam_sizing.specs.declared.least.Least.{Least}
 use Rattle.sam_sizing.specs.declared.least.Least.TheVariants.{Found, Above}
 use Rattle.sam_sizing.specs.Least.{IsLeast}
-use Rattle.custard_lower.specs.Lowered.{low, storages_of}
+use Rattle.custard_lower.specs.Lowered.{Computes, storages_of}
 use Rattle.parts.specs.Parts.{Part}
 
 -- the least capacity, and the blocks that wait with one less, a line each
@@ -24,13 +24,13 @@ abbrev pub size_answer : Least → Result (List ℕ) Fault
 size_answer (Found capacity below) = Ok (size_text capacity below)
 size_answer (Above list) = Err (Stalled list)
 
--- The least capacity for an accepted program's graph over its entries.
-pub record SizesTo (p : Program) (es : List Entries) (answer : Result (List ℕ) Fault) : Type 0 where
-  pub is_accepted : accepted p ≡ true
+-- The least capacity for such a graph over the program's entries.
+pub record SizesTo (p : Program) (g : Graph) (es : List Entries) (answer : Result (List ℕ) Fault) : Type 0 where
+  pub computes : Computes p g
   pub each : length es ≡ length p.tensors
   pub least : Least
-  pub is_least : IsLeast (net_of (storages_of p es) (low p)) CAPACITY_MOST least
+  pub is_least : IsLeast (net_of (storages_of p es) g) CAPACITY_MOST least
   pub answered : answer ≡ size_answer least
 
-abbrev pub size_part : Program → List Entries → Part (List ℕ)
-size_part p es told answer = SizesTo p es answer
+abbrev pub size_part : Program → Graph → List Entries → Part (List ℕ)
+size_part p g es told answer = SizesTo p g es answer

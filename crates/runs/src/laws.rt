@@ -10,7 +10,7 @@ pub fn runs_to_one_answer()
     ensures { RunsToOneAnswer }
 {}
 
-/// Over a list of entries for each tensor of an accepted program, a run has an answer.
+/// Over a list of entries for each tensor of the program, a run has an answer.
 pub fn runs_to_some_answer()
     ensures { RunsToSomeAnswer }
 {}

@@ -1,4 +1,4 @@
-//! Runs of a program's graph as the words ask for them: the capacities of its channels, the schedule that is played first, and
+//! Runs of a graph that computes a program's tensor, as the words ask for them: the capacities of its channels, the schedule that is played first, and
 //! what is answered where the run ends; and how much room a run needs.
 #![tactic(auto)]
 

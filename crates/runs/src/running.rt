@@ -1,10 +1,10 @@
-//! A run of a program's graph on the machine, and what is answered of it.
+//! A run on the machine of a graph that computes a program's tensor, and what is answered of it.
 
 ghost use Rattle.std.specs.Prelude.{◌≡◌, List, true, IfOk};
 ghost use Rattle.sam_model.specs.declared.tensors.Entries.{Entries};
 ghost use Rattle.sam_model.specs.Program.{accepted};
 ghost use Rattle.machines.specs.Runnable.{Runnable};
-ghost use Rattle.custard_lower.specs.Lowered.{Lowered};
+ghost use Rattle.custard_lower.specs.Lowered.{Computes};
 ghost use Rattle.inputs.specs.Tensors.{AreStored};
 ghost use Rattle.parts.specs.Answers.{ComesAlways};
 ghost use Rattle.runs.specs.Setups.{SetupFits};
@@ -48,7 +48,7 @@ fn run(
     }
 }
 
-/// The text of the tensor that a program denotes, from its graph and its tensors as they are stored; or the blocks that wait,
+/// The text of the tensor that a program denotes, from a graph that computes it and its tensors as they are stored; or the blocks that wait,
 /// where the run stalls.
 pub fn run_program(
     alloc: Global,
@@ -58,11 +58,11 @@ pub fn run_program(
     setup: &Setup,
 ) -> Result<Name, Fault>
     requires accepted { accepted p.now ≡ true }
-    requires lowered { Lowered p.now g.now }
+    requires computes { Computes p.now g.now }
     requires stored { (entries : List Entries) × AreStored p.now.tensors entries storages.now }
     requires fits { SetupFits g.now setup.now }
     ensures { (entries : List Entries) → AreStored p.now.tensors entries storages.now →
-        ComesAlways (run_part p.now entries setup.now.capacities.each) result }
+        ComesAlways (run_part p.now g.now entries setup.now.capacities.each) result }
 {
     match run(alloc, g, storages, setup, p.result.order.len() as u8) {
         Err(_) => Err(Fault::OutOfMemory),

@@ -1,9 +1,8 @@
-//! How much room a run of a program's graph needs.
+//! How much room a run of a graph that computes a program's tensor needs.
 
-ghost use Rattle.std.specs.Prelude.{◌≡◌, List, true, IfOk};
+ghost use Rattle.std.specs.Prelude.{◌≡◌, List, IfOk};
 ghost use Rattle.sam_model.specs.declared.tensors.Entries.{Entries};
-ghost use Rattle.sam_model.specs.Program.{accepted};
-ghost use Rattle.custard_lower.specs.Lowered.{Lowered};
+ghost use Rattle.custard_lower.specs.Lowered.{Computes};
 ghost use Rattle.inputs.specs.Tensors.{AreStored};
 ghost use Rattle.parts.specs.Answers.{ComesAlways};
 ghost use Rattle.runs.specs.Sizes.{size_text, size_part};
@@ -29,7 +28,7 @@ fn size_text(alloc: Global, capacity: u32, below: &[Waiting]) -> Result<Name, Al
     Ok(text)
 }
 
-/// The text of the least capacity under which a run of a program's graph over its tensors finishes, given to every channel
+/// The text of the least capacity under which a run of a graph over the program's tensors finishes, given to every channel
 /// alike, with the blocks that wait with one less; or the blocks that wait under `CAPACITY_MOST`, where that is too small.
 pub fn size_program(
     alloc: Global,
@@ -37,11 +36,10 @@ pub fn size_program(
     g: &Graph,
     storages: &[Storage],
 ) -> Result<Name, Fault>
-    requires accepted { accepted p.now ≡ true }
-    requires lowered { Lowered p.now g.now }
+    requires computes { Computes p.now g.now }
     requires stored { (entries : List Entries) × AreStored p.now.tensors entries storages.now }
     ensures { (entries : List Entries) → AreStored p.now.tensors entries storages.now →
-        ComesAlways (size_part p.now entries) result }
+        ComesAlways (size_part p.now g.now entries) result }
 {
     let maker = BlocksAnew {
         alloc,
