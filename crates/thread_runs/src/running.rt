@@ -1,4 +1,4 @@
-//! A run of a program's graph with a thread for every block, and what is answered of it.
+//! A run, with a thread for every block, of a graph that computes a program's tensor, and what is answered of it.
 
 ghost use Rattle.std.specs.Prelude.{◌≡◌, ◌≤◌, List, true, IfOk};
 ghost use Rattle.sam_base.specs.declared.TheConstants.{CAPACITY_MOST};
@@ -6,7 +6,7 @@ ghost use Rattle.sam_model.specs.declared.tensors.Entries.{Entries};
 ghost use Rattle.sam_model.specs.Program.{accepted};
 ghost use Rattle.sam_model.specs.Statement.{statement_text};
 ghost use Rattle.graph.specs.Writers.{written_listing};
-ghost use Rattle.custard_lower.specs.Lowered.{Lowered};
+ghost use Rattle.custard_lower.specs.Lowered.{Computes};
 ghost use Rattle.inputs.specs.Tensors.{AreStored};
 ghost use Rattle.machines.specs.Runnable.{Runnable};
 
@@ -40,8 +40,8 @@ fn run_writers<G: Gate + Sync, R: Threads + Wait + Sync>(
     gather(alloc, g, finished.as_slice(), levels)
 }
 
-/// The text of the tensor that a program's statement denotes, from its graph and its tensors as they are stored. The graph runs with a
-/// thread for every block, on wires that hold at most `capacity` messages, from 1 to `CAPACITY_MOST`.
+/// The text of the tensor that a program's statement denotes, from a graph that computes it and the tensors as they are stored. The
+/// graph runs with a thread for every block, on wires that hold at most `capacity` messages, from 1 to `CAPACITY_MOST`.
 ///
 /// The one refusal is want of memory. No proof says that the run ends: where the capacity is too small, it may wait for ever.
 pub fn run_threads<G: Gate + Sync, R: Threads + Wait + Sync>(
@@ -54,7 +54,7 @@ pub fn run_threads<G: Gate + Sync, R: Threads + Wait + Sync>(
     gate: &G,
 ) -> Result<Name, AllocError>
     requires accepted { accepted p.now ≡ true }
-    requires lowered { Lowered p.now g.now }
+    requires computes { Computes p.now g.now }
     requires stored { (entries : List Entries) × AreStored p.now.tensors entries storages.now }
     requires capacity { (1 ≤ capacity) × (capacity ≤ CAPACITY_MOST) }
     ensures { (entries : List Entries) → AreStored p.now.tensors entries storages.now →

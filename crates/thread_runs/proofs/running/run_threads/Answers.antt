@@ -12,20 +12,20 @@ use Rattle.thread_runs.proofs.running.run_threads.Goals as goal
 pub run_writers-requires-clause-runnable : goal.run_writers-requires-clause-runnable
 run_writers-requires-clause-runnable g c κs within =
     let stored = c.requires.stored in
-    program-runs c.args.p.now c.args.g.now c.requires.lowered stored.0 c.args.storages.now stored.1
+    program-runs c.args.p.now c.args.g.now c.requires.computes stored.0 c.args.storages.now stored.1
 
 pub result_text-requires : goal.result_text-requires
 result_text-requires g c =
     let p = c.args.p.now in
     let graph = c.args.g.now in
-    let lowered = c.requires.lowered in
+    let computes = c.requires.computes in
     let storages = c.args.storages.now in
     let stored = c.requires.stored in
     let written = c.in_ok-written.ensures ∙ ap (written_listing storages graph) c.len-levels.ensures in
     record {
       dims = dims-fit p c.requires.accepted;
-      in_range = rw written (written-in-range p graph lowered stored.0 storages stored.1);
-      below = rw written (written-within p graph lowered stored.0 storages stored.1);
+      in_range = rw written (written-in-range p graph computes stored.0 storages stored.1);
+      below = rw written (written-within p graph computes stored.0 storages stored.1);
     }
 
 pub returns : goal.returns
@@ -34,6 +34,6 @@ returns g c = λ entries are.
     let graph = c.args.g.now in
     let storages = c.args.storages.now in
     let written = c.in_ok-written.ensures ∙ ap (written_listing storages graph) c.len-levels.ensures in
-    let tensor = ap listing written ∙ written-tensor p graph c.requires.lowered entries storages are in
+    let tensor = ap listing written ∙ written-tensor p graph c.requires.computes entries storages are in
     IfOk-weaker c.result_text.result _ _
     (λ text is. is ∙ ap (listing_text p.result.order) tensor ∙ terms-text p entries c.requires.accepted) c.result_text.ensures
