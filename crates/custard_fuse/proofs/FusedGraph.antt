@@ -1,6 +1,6 @@
 -- The graph of a program whose terms are fused: its labels are allowed, so it carries what the plain graph does.
 use Rattle.std.specs.Prelude.{◌≡◌, ◌<◌, ◌^◌, Bool, true, cond, length}
-use Rattle.std.proofs.Common.{sym, ap, subst}
+use Rattle.std.proofs.Common.{sym, ap, subst, ◌∙◌}
 use Rattle.sam_model.specs.declared.program.Program.{Program}
 use Rattle.sam_model.specs.Program.{accepted}
 use Rattle.stream_model.specs.Fused.{shared_levels}
@@ -9,12 +9,13 @@ use Rattle.graph.specs.Wiring.{WellFormed}
 use Rattle.graph.specs.Assembly.{FewPayloads}
 use Rattle.label_rules.specs.Holding.{RulesMet}
 use Rattle.custard_lower.specs.declared.reductions.Levels.{Levels}
-use Rattle.custard_lower.specs.DraftGraph.{graph_of}
-use Rattle.custard_lower.specs.Lowered.{low, Carries}
+use Rattle.custard_lower.specs.DraftGraph.{ReadsWithin, graph_of}
+use Rattle.custard_lower.specs.Lowered.{low, Carries, Computes}
 use Rattle.custard_lower.proofs.draft.SmallGraphs.{small-blocks, small-channels}
-use Rattle.custard_lower.proofs.written.ResultGraph.{RulesServe, ResultStands, result-formed, result-allowed, result-few, result-carries}
+use Rattle.custard_lower.proofs.written.ResultGraph.{RulesServe, ResultStands, result-formed, result-allowed, result-few, result-reads, result-carries}
 use Rattle.custard_fuse.specs.Fusing.{plans_of, is_fused, fused_levels, fused_draft, fus}
 use Rattle.custard_fuse.specs.FusedRules.{last_term, FusedAllowed, Deep}
+use Rattle.custard_fuse.specs.Fused.{Fused}
 use Rattle.custard_fuse.specs.Laws.{FusedCarries}
 use Rattle.custard_fuse.proofs.FusedAllows.{FusedRules}
 use Rattle.custard_fuse.proofs.FusedServes.{fused-serves}
@@ -48,3 +49,11 @@ module _ (p : Program) (ok : accepted p ≡ true) (fused : is_fused p ≡ true) 
           subst (λ (g : Graph). Carries p g es) graph (result-carries p Deep (FusedRules p) serves levels result es same);
     };
   }
+
+  -- its draft reads outputs that are there
+  pub fused-reads : ReadsWithin (fused_draft p)
+  fused-reads = result-reads p Deep (FusedRules p) serves levels result
+
+  -- the graph of the draft
+  pub draft-fused : (g : Graph) → g ≡ graph_of (fused_draft p) → Fused p g
+  draft-fused g is = record { is_fus = is ∙ graph; computes = subst (Computes p) (sym (is ∙ graph)) fused-carries.computes }

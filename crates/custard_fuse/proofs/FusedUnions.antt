@@ -2,7 +2,7 @@
 use Rattle.std.specs.Prelude.{◌≡◌, ◌<◌, ◌≤◌, ℕ, suc, ◌+◌, List, [], ◌∷◌, ◌++◌, length, take, get_or, refl}
 use mathlib.Core.List.{map}
 use Rattle.std.proofs.Common.{arith, sym, ◌∙◌, ap, length-append, take-suc, append-nil, append_assoc}
-use Rattle.std.proofs.lemmas.List.{map-append}
+use Rattle.std.proofs.lemmas.List.{length-map, map-append}
 use Rattle.std.proofs.lemmas.List.FromFn.{get_or-map-range_with_len, length-map-range_with_len}
 use Rattle.sam_model.specs.declared.program.Program.{Program}
 use Rattle.sam_model.specs.Lists.{below}
@@ -36,6 +36,13 @@ pairs-length n (t ∷ ts) =
     let b = length-map-range_with_len {X = ℕ × ℕ} (λ (f : ℕ). (n, f)) 0 (factors t) in
     let c = pairs-length (suc n) ts in
     omega (arith, a, b, c)
+
+-- as many labels as factors
+pub ranks_counted : (upto depth n : ℕ) (ts : List Plan) → length (rank_labels upto depth n ts) ≡ all_factors ts
+ranks_counted upto depth n ts =
+    ap length (ranks-are upto depth n ts)
+    ∙ length-map (pairs n ts) (λ (r : ℕ × ℕ). across_label upto r.0 depth (Rank r.1))
+    ∙ pairs-length n ts
 
 each-append : (m : ℕ) (xs ys : List (ℕ × ℕ)) → Each (λ (r : ℕ × ℕ). r.0 < m) xs → Each (λ (r : ℕ × ℕ). r.0 < m) ys → Each (λ (r : ℕ × ℕ). r.0 < m) (xs ++ ys)
 each-append m [] ys a b = b

@@ -1,4 +1,7 @@
+pub mod Counting
+pub mod TermSlices
 mod FusedPlans
+pub mod PlansFit
 mod FusedTerms
 mod FusedLabels
 mod FusedUnions

@@ -2,11 +2,9 @@
 use Rattle.std.specs.Prelude.{◌≡◌, ◌<◌, ◌≤◌, ℕ, zero, suc, ◌+◌, ◌*◌, ◌-◌, true, List, [], ◌∷◌, ◌++◌, length, take, drop, get_or, refl}
 use Rattle.std.specs.List.{range_with_len}
 use Rattle.std.proofs.Common.{arith, sym, ◌∙◌, ap, subst, length-append}
-use Rattle.std.proofs.lemmas.List.{length-map}
 use Rattle.std.proofs.lemmas.List.FromFn.{length-range_with_len}
 use Rattle.sam_model.specs.declared.program.Program.{Program}
 use Rattle.sam_model.specs.Program.{accepted}
-use Rattle.stream_model.specs.declared.labels.Attr.TheVariants.{Rank}
 use Rattle.stream_model.specs.Fused.{shared_levels}
 use Rattle.label_rules.specs.declared.plans.Plan.{Plan}
 use Rattle.label_rules.specs.TermLabels.{empty_term, plan_at, factor_count, loop_count}
@@ -25,23 +23,18 @@ use Rattle.custard_lower.proofs.draft.SmallGraphs.{read-number}
 use Rattle.custard_lower.proofs.term.Nesting.{references_kept, levels_counted}
 use Rattle.custard_lower.proofs.term.PlanFacts.{is-small}
 use Rattle.custard_lower.proofs.join.SmallDraft.{weight, weight-emit, blocks-weigh, outputs-weigh, reads-weigh, level-weighs, valued-weighs, reduced-weighs, pruned-weighs, writers-weigh}
-use Rattle.custard_fuse.specs.Sharing.{all_factors, across_label, rank_labels, scanned_terms, union, united, shared_level, shared_levels_of}
+use Rattle.custard_fuse.specs.Sharing.{all_factors, scanned_terms, union, united, shared_level, shared_levels_of}
 use Rattle.custard_fuse.specs.Fusing.{plans_of, is_fused, deeper_levels, summed_term, addition, added_terms, all_terms, fused_draft}
 use Rattle.custard_fuse.specs.FusedRules.{last_term, fused_trees}
-use Rattle.custard_fuse.proofs.FusedPlans.{several, few-factors, levels-within}
-use Rattle.custard_fuse.proofs.FusedUnions.{pairs, ranks-are, pairs-length}
+use Rattle.custard_fuse.proofs.FusedPlans.{several, few-factors}
+use Rattle.custard_fuse.proofs.FusedUnions.{ranks_counted}
+use Rattle.custard_fuse.proofs.PlansFit.{few_levels}
 use Rattle.custard_fuse.proofs.SharedWalk.{factors-before, plans_from, plans-are, level_of}
 
 at_most : {A : Type 0} (n : ℕ) (xs : List A) → length (take n xs) ≤ n
 at_most zero xs = omega arith
 at_most (suc n) [] = omega arith
 at_most (suc n) (x ∷ xs) = let r = at_most n xs in omega (arith, r)
-
-ranks_counted : (upto depth n : ℕ) (ts : List Plan) → length (rank_labels upto depth n ts) ≡ all_factors ts
-ranks_counted upto depth n ts =
-    ap length (ranks-are upto depth n ts)
-    ∙ length-map (pairs n ts) (λ (r : ℕ × ℕ). across_label upto r.0 depth (Rank r.1))
-    ∙ pairs-length n ts
 
 module _ (p : Program) (ok : accepted p ≡ true) (fused : is_fused p ≡ true) where
   abbrev h : ℕ
@@ -200,13 +193,6 @@ module _ (p : Program) (ok : accepted p ≡ true) (fused : is_fused p ≡ true) 
           subst (λ (ts : List Plan). (weight (all_terms last h p ts n).made ≤ weight n.made + 34752) × (length (all_terms last h p ts n).coordinates ≡ length n.coordinates))
           (sym same) (omega (arith, a, b0, terms, many), b.1)
 
-  few_levels : h ≤ 8
-  few_levels =
-      let inside : 0 < length p.terms = let k = several p ok fused in omega (arith, k) in
-      let a = levels-within p ok fused 0 inside in
-      let b = (is-small p ok 0 inside).loops in
-      omega (arith, a, b)
-
   draft_weighs : weight (fused_draft p) ≤ 71000
   draft_weighs =
       let nest = shared_levels_of (plans_of p) last h h (root ∷ []) in
@@ -214,7 +200,7 @@ module _ (p : Program) (ok : accepted p ≡ true) (fused : is_fused p ≡ true) 
       let a = levels_weigh h (root ∷ []) in
       let b = terms_weigh nest in
       let c = pruned-weighs (OfAll last) (length all.coordinates) all in
-      let few = few_levels in
+      let few = few_levels p ok fused in
       let a0 = a.0 in
       let a1 = a.1 in
       let b0 = b.0 in

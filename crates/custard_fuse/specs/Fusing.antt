@@ -58,24 +58,33 @@ module _ (last levels : ℕ) where
     labels = tree_label (UnderJoined n unpruned levels) Value ∷ [];
   }
 
-  -- the terms from number n on, from these references of their factors, added to those before
-  abbrev pub added_terms : Program → ℕ → List Plan → List ℕ → Levels → Levels
-  added_terms p n [] references l = l
-  added_terms p n (t ∷ ts) references l =
-      let one = summed_term n t (record { made = l.made; coordinates = l.coordinates; references = take (factors t) references }) in
-      added_terms p (suc n) ts (drop (factors t) references) (record {
+  -- term number n, from these references of its factors, added to those before
+  abbrev pub added_term : Program → ℕ → Plan → List ℕ → Levels → Levels
+  added_term p n t references l =
+      let one = summed_term n t (record { made = l.made; coordinates = l.coordinates; references = references }) in
+      record {
         made = one.made ++ addition n (get_or p.terms n empty_term).minus l.values one.values ∷ [];
         coordinates = l.coordinates;
         values = outputs_of one.made;
-      })
+      }
+
+  -- and so are the others after it
+  abbrev pub added_terms : Program → ℕ → List Plan → List ℕ → Levels → Levels
+  added_terms p n [] references l = l
+  added_terms p n (t ∷ ts) references l =
+      added_terms p (suc n) ts (drop (factors t) references) (added_term p n t (take (factors t) references) l)
+
+  -- term number 0
+  abbrev pub first_term : Plan → List Made → List ℕ → List ℕ → Levels
+  first_term t made coordinates references =
+      let one = summed_term 0 t (record { made = made; coordinates = coordinates; references = references }) in
+      record { made = one.made; coordinates = coordinates; values = one.values }
 
   -- all terms, after the levels that they share
   abbrev pub all_terms : Program → List Plan → Nest → Levels
   all_terms p [] n = record { made = n.made; coordinates = n.coordinates; values = 0 }
   all_terms p (t ∷ ts) n =
-      let one = summed_term 0 t (record { made = n.made; coordinates = n.coordinates; references = take (factors t) n.references }) in
-      added_terms p 1 ts (drop (factors t) n.references)
-      (record { made = one.made; coordinates = n.coordinates; values = one.values })
+      added_terms p 1 ts (drop (factors t) n.references) (first_term t n.made n.coordinates (take (factors t) n.references))
 
 -- ---- all blocks
 

@@ -1,4 +1,5 @@
 pub mod Sharing
 pub mod Fusing
 pub mod FusedRules
+pub mod Fused
 pub mod Laws

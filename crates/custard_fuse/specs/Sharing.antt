@@ -48,17 +48,22 @@ module _ (last levels : ℕ) where
   abbrev pub shared_trees : ℕ → TermTrees
   shared_trees n = Shared n last levels
 
-  -- The terms from number n on scan the level below d others, from these references of their factors. Their coordinates and
-  -- their factors' references come after those of the terms before.
-  abbrev pub scanned_terms : ℕ → ℕ → List Plan → List ℕ → Nest → Nest
-  scanned_terms d n [] references s = s
-  scanned_terms d n (t ∷ ts) references s =
-      let one = level (shared_trees n) t d (record { made = s.made; coordinates = []; references = take (factors t) references }) in
-      scanned_terms d (suc n) ts (drop (factors t) references) (record {
+  -- Term number n scans the level below d others, from these references of its factors. Its coordinates and its factors' references
+  -- come after those of the terms before.
+  abbrev pub scanned_term : ℕ → ℕ → Plan → List ℕ → Nest → Nest
+  scanned_term d n t references s =
+      let one = level (shared_trees n) t d (record { made = s.made; coordinates = []; references = references }) in
+      record {
         made = one.made;
         coordinates = s.coordinates ++ one.coordinates;
         references = s.references ++ one.references;
-      })
+      }
+
+  -- and so do the others after it
+  abbrev pub scanned_terms : ℕ → ℕ → List Plan → List ℕ → Nest → Nest
+  scanned_terms d n [] references s = s
+  scanned_terms d n (t ∷ ts) references s =
+      scanned_terms d (suc n) ts (drop (factors t) references) (scanned_term d n t (take (factors t) references) s)
 
 -- all terms of a program; the last is number `last`
 module _ (plans : List Plan) where
@@ -81,13 +86,18 @@ module _ (plans : List Plan) where
         references = range_with_len (suc w) (length u.references + length (take (factors t) references));
       })
 
+  -- all terms, of which each has scanned
+  abbrev pub united_terms : ℕ → Nest → Nest
+  united_terms d s =
+      let k = factors (get_or plans 0 no_plan) in
+      let first : Nest = record { made = s.made; coordinates = take 1 s.coordinates; references = take k s.references } in
+      united d 1 (drop 1 plans) (drop 1 s.coordinates) (drop k s.references) first
+
   -- the level below d others, beneath what all terms have
   abbrev pub shared_level : ℕ → ℕ → ℕ → Nest → Nest
   shared_level last levels d n =
       let s = scanned_terms last levels d 0 plans n.references (record { made = n.made; coordinates = []; references = [] }) in
-      let k = factors (get_or plans 0 no_plan) in
-      let first : Nest = record { made = s.made; coordinates = take 1 s.coordinates; references = take k s.references } in
-      let all = united d 1 (drop 1 plans) (drop 1 s.coordinates) (drop k s.references) first in
+      let all = united_terms d s in
       record { made = all.made; coordinates = n.coordinates ++ all.coordinates; references = all.references }
 
   -- the first d levels; before the first, each factor's reference is the root's output
