@@ -155,11 +155,13 @@ streams_fused : asked_of (codes "--fused" ∷ codes "streams" ∷ codes "p.sam" 
 unfolding clap_on_literals
 streams_fused = refl
 
-steps_fused : asked_of (step_p (codes "--fused" ∷ codes "--capacity=1" ∷ [])) ≡ asks_step (record plain { lowering = Fused; capacity = Some 1 })
+steps_fused :
+    asked_of (step_p (codes "--fused" ∷ codes "--capacity=1" ∷ [])) ≡ asks_step (record plain { lowering = Fused; capacity = Some 1 })
 unfolding clap_on_literals
 steps_fused = refl
 
-moment_fused : asked_of (codes "moment" ∷ codes "--fused" ∷ codes "p.sam" ∷ []) ≡ Some (Moment (codes "p.sam") (record plain { lowering = Fused }))
+moment_fused :
+    asked_of (codes "moment" ∷ codes "--fused" ∷ codes "p.sam" ∷ []) ≡ Some (Moment (codes "p.sam") (record plain { lowering = Fused }))
 unfolding clap_on_literals
 moment_fused = refl
 
