@@ -35,7 +35,7 @@ module _ (p : Program) (ok : accepted p ≡ true) (g : Graph) (lowered : Lowered
 
   entry_values : map number_of (statement_entries p es) ≡ values
   entry_values =
-      let carries : Carries p g es = lowered.carries es are.each in
+      let carries : Carries p g es = lowered.computes.carries es are.each in
       let w = written_of p g es in
       ap (map number_of) (sym (terms-tell p es ok) ∙ sym carries.written_tensor)
       ∙ listed (path_of w.segs w.crds) 0 w.vals

@@ -15,7 +15,7 @@ run-requires c =
     let p = c.in_ok-program.program in
     let g = c.in_ok-graph.graph in
     subst (λ (s : List Ranked). Runnable s g) (sym c.as_slice.ensures)
-    (program-runs p g c.in_ok-graph.ensures (workload_entries c.args.n) c.in_ok-program.storages c.in_ok-program.ensures.stored)
+    (program-runs p g c.in_ok-graph.ensures.computes (workload_entries c.args.n) c.in_ok-program.storages c.in_ok-program.ensures.stored)
 
 pub returns : goal.returns
 unfolding large_text
