@@ -12,5 +12,5 @@ mod TermsWalk
 mod ResultWalk
 mod FusedServes
 mod SmallFused
-mod FusedGraph
+pub mod FusedGraph
 mod WorkedFusing
