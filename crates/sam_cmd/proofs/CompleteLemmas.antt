@@ -14,11 +14,12 @@ use Rattle.inputs.specs.Tensors.{tensor_part}
 use Rattle.runs.specs.Runs.{RunsTo}
 use Rattle.runs.proofs.RunLaws.{runs-to-some-answer, ample-room-finishes}
 use Rattle.graph.specs.declared.graphs.Graph.{Graph}
-use Rattle.custard_lower.specs.Lowered.{low}
 use Rattle.thread_runs.specs.declared.TheConstants.{THREADS_MOST}
 use Rattle.thread_runs.specs.ThreadsFor.{threads_for}
 use Rattle.runs.proofs.SizeLaws.{sufficing-is-sized}
+use Rattle.sam_cmd.specs.Chosen.{chosen}
 use Rattle.sam_cmd.specs.Laws.{StepCompletes, RunCompletes, SizeCompletes}
+use Rattle.sam_cmd.proofs.ChosenGraphs.{chosen-computes}
 
 -- a list of parts gives as many
 each_length : {A B : Type 0} (f : A → Part B) (told : Option Told) (xs : List A) (ys : List B) → each_part f xs told (Ok ys) →
@@ -34,11 +35,11 @@ read_accepted told name p (text, read, (q, spelled, (is, is_accepted))) =
 pub step-completes : StepCompletes
 step-completes told program options p setup entries read set stored ample =
     let caps = setup.capacities.each in
-    let some =
-    runs-to-some-answer p entries caps (read_accepted told program p read)
-    (each_length tensor_part told p.tensors entries stored) in
-    let text = ample-room-finishes p entries caps some.0 ample some.1 in
-    (p, read, (setup, set, (entries, stored, subst (λ (a : Result (List ℕ) Fault). RunsTo p entries caps a) text some.1)))
+    let g = chosen options.lowering p in
+    let computes = chosen-computes p (read_accepted told program p read) options.lowering in
+    let some = runs-to-some-answer p g entries caps computes (each_length tensor_part told p.tensors entries stored) in
+    let text = ample-room-finishes p g entries caps some.0 ample some.1 in
+    (p, read, (setup, set, (entries, stored, subst (λ (a : Result (List ℕ) Fault). RunsTo p g entries caps a) text some.1)))
 
 not_past : (n : ℕ) → n ≤ THREADS_MOST → nat_lt THREADS_MOST n ≡ false
 not_past n few = grind (arith, nat_tests)
@@ -48,10 +49,13 @@ few_threads g few =
     sym (ap (λ (past : Bool). if past then Err (TooManyBlocks (length g.blocks)) else Ok g) (not_past (length g.blocks) few))
 
 pub run-completes : RunCompletes
-run-completes told program p entries read few stored = (p, read, (low p, few_threads (low p) few, (entries, stored, refl)))
+run-completes told program lowering p entries read few stored =
+    let g = chosen lowering p in
+    (p, read, (g, few_threads g few, (entries, stored, refl)))
 
 pub size-completes : SizeCompletes
-size-completes told program p entries read stored enough =
+size-completes told program lowering p entries read stored enough =
+    let computes = chosen-computes p (read_accepted told program p read) lowering in
     let sized =
-    sufficing-is-sized p entries (read_accepted told program p read) (each_length tensor_part told p.tensors entries stored) enough in
+    sufficing-is-sized p (chosen lowering p) entries computes (each_length tensor_part told p.tensors entries stored) enough in
     (sized.0, sized.1, (p, read, (entries, stored, sized.2)))

@@ -1,3 +1,4 @@
+pub mod ChosenGraphs
 pub mod CommandLemmas
 pub mod CompleteLemmas
 pub mod ReportLemmas

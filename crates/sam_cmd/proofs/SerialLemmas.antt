@@ -6,6 +6,7 @@ use Rattle.sam_io.specs.Outside.{Told}
 use Rattle.sam_io.specs.Spans.{FilesSpan, SinkSpan}
 use Rattle.parts.specs.Answers.{Comes}
 use Rattle.parts.proofs.DueLemmas.{ok_same, settled}
+use Rattle.words.specs.declared.asking.Lowering.{Lowering}
 use Rattle.words.specs.declared.asking.Command.{Command}
 use Rattle.words.specs.declared.asking.Command.TheVariants.{Run}
 use Rattle.words.specs.Asked.{asked_of}
@@ -14,11 +15,11 @@ use Rattle.sam_cmd.specs.Answers.{Answered}
 use Rattle.sam_cmd.proofs.CommandLemmas.{one_answer}
 
 abbrev IsOther : Command → Type 0
-IsOther command = (program : List ℕ) (capacity : Option ℕ) → command ≡ Run program capacity → ⊥
+IsOther command = (program : List ℕ) (lowering : Lowering) (capacity : Option ℕ) → command ≡ Run program lowering capacity → ⊥
 
 same_text : (command : Command) → IsOther command → (told : Option Told) (r : Result (List ℕ) Fault) →
     serial_text_part command told r → text_part command told r
-same_text (Run program capacity) other told r there = absurd (other program capacity refl)
+same_text (Run program lowering capacity) other told r there = absurd (other program lowering capacity refl)
 same_text _ other told r there = there
 
 module _ (words : List (List ℕ)) (command : Command) (asked : Ok command ≡ asked_or_usage (asked_of words)) (other : IsOther command) where

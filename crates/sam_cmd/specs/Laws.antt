@@ -8,16 +8,18 @@ use Rattle.sam_model.specs.declared.program.Program.{Program}
 use Rattle.sam_model.specs.Statement.{statement_text}
 use Rattle.plays.specs.Net.{Suffices}
 use Rattle.stepper.specs.NetOf.{net_of}
-use Rattle.custard_lower.specs.Lowered.{low, storages_of}
+use Rattle.custard_lower.specs.Lowered.{storages_of}
 use Rattle.parts.specs.Parts.{each_part}
 use Rattle.inputs.specs.Programs.{program_part}
 use Rattle.inputs.specs.Tensors.{tensor_part}
+use Rattle.words.specs.declared.asking.Lowering.{Lowering}
 use Rattle.words.specs.declared.asking.Options.{Options}
 use Rattle.runs.specs.declared.setup.Setup.{Setup}
 use Rattle.runs.specs.Setups.{setup_part}
 use Rattle.runs.specs.Laws.{AmpleRoom}
 use Rattle.runs.specs.Sizes.{size_text}
 use Rattle.thread_runs.specs.declared.TheConstants.{THREADS_MOST}
+use Rattle.sam_cmd.specs.Chosen.{chosen}
 use Rattle.sam_cmd.specs.declared.running.Wanted.TheVariants.{Result}
 use Rattle.sam_cmd.specs.Commands.{running_part, threads_part, sizing_part}
 
@@ -25,21 +27,21 @@ use Rattle.sam_cmd.specs.Commands.{running_part, threads_part, sizing_part}
 abbrev pub StepCompletes : Type 0
 StepCompletes =
     (told : Option Told) (program : List ℕ) (options : Options) (p : Program) (setup : Setup) (entries : List Entries) →
-    program_part program told (Ok p) → setup_part (low p) options told (Ok setup) →
-    each_part tensor_part p.tensors told (Ok entries) → AmpleRoom p entries setup.capacities.each →
+    program_part program told (Ok p) → setup_part (chosen options.lowering p) options told (Ok setup) →
+    each_part tensor_part p.tensors told (Ok entries) → AmpleRoom p (chosen options.lowering p) entries setup.capacities.each →
     running_part Result program options told (Ok (statement_text p entries))
 
 -- `run` answers it where the graph isn't too large.
 abbrev pub RunCompletes : Type 0
 RunCompletes =
-    (told : Option Told) (program : List ℕ) (p : Program) (entries : List Entries) →
-    program_part program told (Ok p) → length (low p).blocks ≤ THREADS_MOST →
-    each_part tensor_part p.tensors told (Ok entries) → threads_part program told (Ok (statement_text p entries))
+    (told : Option Told) (program : List ℕ) (lowering : Lowering) (p : Program) (entries : List Entries) →
+    program_part program told (Ok p) → length (chosen lowering p).blocks ≤ THREADS_MOST →
+    each_part tensor_part p.tensors told (Ok entries) → threads_part program lowering told (Ok (statement_text p entries))
 
 -- `size` answers the least capacity where the largest one suffices.
 abbrev pub SizeCompletes : Type 0
 SizeCompletes =
-    (told : Option Told) (program : List ℕ) (p : Program) (entries : List Entries) →
+    (told : Option Told) (program : List ℕ) (lowering : Lowering) (p : Program) (entries : List Entries) →
     program_part program told (Ok p) → each_part tensor_part p.tensors told (Ok entries) →
-    Suffices (net_of (storages_of p entries) (low p)) CAPACITY_MOST →
-    (capacity : ℕ) × (below : List Waiting) × sizing_part program told (Ok (size_text capacity below))
+    Suffices (net_of (storages_of p entries) (chosen lowering p)) CAPACITY_MOST →
+    (capacity : ℕ) × (below : List Waiting) × sizing_part program lowering told (Ok (size_text capacity below))

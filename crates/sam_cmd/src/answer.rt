@@ -25,8 +25,8 @@ fn text<F: Files>(alloc: Global, files: &mut F, command: &Command) -> Result<Nam
 {
     match command {
         Command::Check { program } => check(alloc, files, program),
-        Command::Lower { program } => lower(alloc, files, program),
-        Command::Streams { program } => streams(alloc, files, program),
+        Command::Lower { program, lowering } => lower(alloc, files, program, *lowering),
+        Command::Streams { program, lowering } => streams(alloc, files, program, *lowering),
         Command::Step { program, options } => {
             running(alloc, files, Wanted::Result, program, options)
         }
@@ -34,7 +34,7 @@ fn text<F: Files>(alloc: Global, files: &mut F, command: &Command) -> Result<Nam
             running(alloc, files, Wanted::Moment, program, options)
         }
         Command::Run { .. } => Err(Fault::Usage),
-        Command::Size { program } => size(alloc, files, program),
+        Command::Size { program, lowering } => size(alloc, files, program, *lowering),
         Command::Large { number } => large(alloc, *number),
     }
 }

@@ -12,6 +12,7 @@ ghost use Rattle.sam_cmd.specs.Answers.{Answered};
 mod answer;
 mod asked;
 mod check;
+mod chosen;
 mod laws;
 mod lower;
 mod report;
@@ -53,6 +54,9 @@ use words::Command;
 /// - `large N` makes the workload of that number, runs its graph, and writes how many entries the result has, the sum of their
 ///   values and the number of events.
 ///
+/// Every command but `check` and `large` takes the flag `--fused`: the graph is the one whose terms are united at the scanners, for the same
+/// tensor.
+///
 /// The contract says which other answers there are and when each comes. No proof says that `run` ends: with too small a capacity
 /// it may wait for ever, and `step --capacity` tells before whether one is large enough. Nothing but `run` waits. The gate is told
 /// of what the works of blocks do.
@@ -77,8 +81,12 @@ pub fn sam<F: Files, O: Sink, E: Sink, G: Gate + Sync, R: Threads + Wait + Sync>
         Err(fault) => return give(alloc, &Err(fault), out, err),
     };
     match &command {
-        Command::Run { program, capacity } => {
-            let text = run(rt, alloc, files, program, *capacity, gate);
+        Command::Run {
+            program,
+            lowering,
+            capacity,
+        } => {
+            let text = run(rt, alloc, files, program, *lowering, *capacity, gate);
             give(alloc, &text, out, err)
         }
         _ => sam_serial(alloc, words, files, out, err),

@@ -4,15 +4,16 @@ ghost use Rattle.std.specs.Prelude.{◌≡◌, List, true};
 ghost use Rattle.sam_io.specs.Spans.{KeepsFiles, files_span};
 ghost use Rattle.sam_model.specs.declared.tensors.Entries.{Entries};
 ghost use Rattle.sam_model.specs.Program.{accepted};
-ghost use Rattle.custard_lower.specs.Lowered.{Lowered, low};
+ghost use Rattle.custard_lower.specs.Lowered.{Computes};
 ghost use Rattle.parts.specs.Parts.{followed, each_part};
 ghost use Rattle.parts.specs.Answers.{Comes, ComesAlways};
 ghost use Rattle.inputs.specs.Tensors.{tensor_part, AreStored};
 ghost use Rattle.words.specs.Asked.{HasCapacities};
 ghost use Rattle.runs.specs.Setups.{SetupFits, setup_part};
+ghost use Rattle.sam_cmd.specs.Chosen.{chosen};
 ghost use Rattle.sam_cmd.specs.Commands.{wanted_part, running_part};
 
-use custard_lower::lower;
+use crate::chosen::chosen_graph;
 use graph::Graph;
 use inputs::{program, storages};
 use levels::Storage;
@@ -42,11 +43,11 @@ fn wanted_text(
     setup: &Setup,
 ) -> Result<Name, Fault>
     requires accepted { accepted p.now ≡ true }
-    requires lowered { Lowered p.now g.now }
+    requires computes { Computes p.now g.now }
     requires stored { (entries : List Entries) × AreStored p.now.tensors entries storages.now }
     requires fits { SetupFits g.now setup.now }
     ensures { (entries : List Entries) → AreStored p.now.tensors entries storages.now →
-        ComesAlways (wanted_part wanted p.now setup.now entries) result }
+        ComesAlways (wanted_part wanted p.now g.now setup.now entries) result }
 {
     match wanted {
         Wanted::Result => run_program(alloc, p, g, storages, setup),
@@ -69,10 +70,10 @@ fn over_tensors<F: Files>(
     setup: &Setup,
 ) -> Result<Name, Fault>
     requires accepted { accepted p.now ≡ true }
-    requires lowered { Lowered p.now g.now }
+    requires computes { Computes p.now g.now }
     requires fits { SetupFits g.now setup.now }
     ensures keeps { KeepsFiles F.Files files.old files.new }
-    ensures comes { Comes (followed (each_part tensor_part p.now.tensors) (wanted_part wanted p.now setup.now))
+    ensures comes { Comes (followed (each_part tensor_part p.now.tensors) (wanted_part wanted p.now g.now setup.now))
         (files_span F.Files files.old files.new) result }
 {
     match storages(alloc, files, p.tensors.as_slice()) {
@@ -92,11 +93,12 @@ fn under_options<F: Files>(
     requires accepted { accepted p.now ≡ true }
     requires capacities { HasCapacities options.now }
     ensures keeps { KeepsFiles F.Files files.old files.new }
-    ensures comes { Comes (followed (setup_part (low p.now) options.now) (λ setup.
-        followed (each_part tensor_part p.now.tensors) (wanted_part wanted p.now setup)))
+    ensures comes { let g = chosen options.now.lowering p.now in
+        Comes (followed (setup_part g options.now) (λ setup.
+        followed (each_part tensor_part p.now.tensors) (wanted_part wanted p.now g setup)))
         (files_span F.Files files.old files.new) result }
 {
-    let Ok(graph) = lower(alloc, p) else {
+    let Ok(graph) = chosen_graph(alloc, options.lowering, p) else {
         return Err(Fault::OutOfMemory);
     };
     match run_setup(alloc, files, &graph, options) {

@@ -6,14 +6,16 @@ ghost use Rattle.sam_io.specs.Spans.{KeepsFiles, files_span};
 ghost use Rattle.sam_model.specs.declared.tensors.Entries.{Entries};
 ghost use Rattle.sam_model.specs.Program.{accepted};
 ghost use Rattle.sam_model.specs.Statement.{statement_text};
-ghost use Rattle.custard_lower.specs.Lowered.{Lowered, low};
+ghost use Rattle.custard_lower.specs.Lowered.{Computes};
 ghost use Rattle.parts.specs.Parts.{gives, followed, each_part};
 ghost use Rattle.parts.specs.Answers.{Comes, ComesAlways};
 ghost use Rattle.inputs.specs.Tensors.{tensor_part};
 ghost use Rattle.words.specs.Asked.{IsCapacityGiven};
 ghost use Rattle.thread_runs.specs.ThreadsFor.{threads_for};
+ghost use Rattle.sam_cmd.specs.Chosen.{chosen};
 ghost use Rattle.sam_cmd.specs.Commands.{threads_part};
 
+use crate::chosen::chosen_graph;
 use block_threads::Gate;
 use graph::Graph;
 use inputs::{program, storages};
@@ -24,14 +26,15 @@ use std::alloc::Global;
 use std::sync::Wait;
 use std::thread::Threads;
 use thread_runs::{RUN_CAPACITY, run_threads, threads_for};
+use words::Lowering;
 
 /// The graph of a program, where it may have a thread for every block.
-fn threaded_graph(alloc: Global, p: &Program) -> Result<Graph, Fault>
+fn threaded_graph(alloc: Global, p: &Program, lowering: Lowering) -> Result<Graph, Fault>
     requires { accepted p.now ≡ true }
-    ensures lowered { IfOk result (Lowered p.now) }
-    ensures comes { ComesAlways (gives (threads_for (low p.now))) result }
+    ensures computes { IfOk result (Computes p.now) }
+    ensures comes { ComesAlways (gives (threads_for (chosen lowering p.now))) result }
 {
-    match custard_lower::lower(alloc, p) {
+    match chosen_graph(alloc, lowering, p) {
         Ok(graph) => threads_for(graph),
         Err(_) => Err(Fault::OutOfMemory),
     }
@@ -48,7 +51,7 @@ fn tensors_text<F: Files, G: Gate + Sync, R: Threads + Wait + Sync>(
     gate: &G,
 ) -> Result<Name, Fault>
     requires accepted { accepted p.now ≡ true }
-    requires lowered { Lowered p.now g.now }
+    requires computes { Computes p.now g.now }
     requires capacity { (1 ≤ capacity) × (capacity ≤ CAPACITY_MOST) }
     ensures keeps { KeepsFiles F.Files files.old files.new }
     ensures comes { Comes (followed (each_part tensor_part p.now.tensors) (λ entries. gives (Ok (statement_text p.now entries))))
@@ -69,17 +72,18 @@ fn program_text<F: Files, G: Gate + Sync, R: Threads + Wait + Sync>(
     alloc: Global,
     files: &mut F,
     p: &Program,
+    lowering: Lowering,
     capacity: u32,
     gate: &G,
 ) -> Result<Name, Fault>
     requires accepted { accepted p.now ≡ true }
     requires capacity { (1 ≤ capacity) × (capacity ≤ CAPACITY_MOST) }
     ensures keeps { KeepsFiles F.Files files.old files.new }
-    ensures comes { Comes (followed (gives (threads_for (low p.now))) (λ g.
+    ensures comes { Comes (followed (gives (threads_for (chosen lowering p.now))) (λ g.
         followed (each_part tensor_part p.now.tensors) (λ entries. gives (Ok (statement_text p.now entries)))))
         (files_span F.Files files.old files.new) result }
 {
-    match threaded_graph(alloc, p) {
+    match threaded_graph(alloc, p, lowering) {
         Err(fault) => Err(fault),
         Ok(graph) => tensors_text(rt, alloc, files, p, &graph, capacity, gate),
     }
@@ -92,17 +96,18 @@ pub fn run<F: Files, G: Gate + Sync, R: Threads + Wait + Sync>(
     alloc: Global,
     files: &mut F,
     name: &Name,
+    lowering: Lowering,
     capacity: Option<u32>,
     gate: &G,
 ) -> Result<Name, Fault>
     requires { IfSome capacity IsCapacityGiven }
-    ensures { Comes (threads_part name.now) (files_span F.Files files.old files.new) result }
+    ensures { Comes (threads_part name.now lowering) (files_span F.Files files.old files.new) result }
 {
     match program(alloc, files, name) {
         Err(fault) => Err(fault),
         Ok(program) => {
             let capacity = capacity.unwrap_or(RUN_CAPACITY);
-            program_text(rt, alloc, files, &program, capacity, gate)
+            program_text(rt, alloc, files, &program, lowering, capacity, gate)
         }
     }
 }

@@ -10,4 +10,4 @@ graph_text-requires c = names-are_text c.args.p.now c.requires.named.tensors c.r
 
 pub returns-in-Ok-graph_text : goal.returns-in-Ok-graph_text
 returns-in-Ok-graph_text c = λ files.
-    ap Ok (c.in-Ok-graph_text.ensures ∙ ap (λ (g : Graph). graph_text c.args.p.now g) c.in-Ok.ensures.is_low)
+    ap Ok (c.in-Ok-graph_text.ensures ∙ ap (λ (g : Graph). graph_text c.args.p.now g) c.in-Ok.ensures.is_chosen)

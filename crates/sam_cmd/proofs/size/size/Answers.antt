@@ -4,6 +4,7 @@ use Rattle.parts.proofs.ChainLemmas.{comes_next, rest_of}
 use Rattle.inputs.specs.Programs.{program_part}
 use Rattle.inputs.specs.Tensors.{tensor_part}
 use Rattle.runs.specs.Sizes.{size_part}
+use Rattle.sam_cmd.specs.Chosen.{chosen}
 use Rattle.sam_cmd.proofs.size.size.Goals as goal
 
 pub returns-in-Ok-clause-comes : goal.returns-in-Ok-clause-comes
@@ -11,6 +12,6 @@ returns-in-Ok-clause-comes g c =
     let old = c.args.files.now in
     let mid = c.program.new.files in
     let new = c.program_size.new.files in
-    comes_next (program_part c.args.name.now) (λ p. followed (each_part tensor_part p.tensors) (size_part p))
+    comes_next (program_part c.args.name.now) (λ p. followed (each_part tensor_part p.tensors) (size_part p (chosen c.args.lowering p)))
     (files_span g.F.Files old new) (files_span g.F.Files mid new) (rest_of g.F.Files old mid new c.in-Ok.ensures.keeps)
     c.in-Ok.program c.program_size.result c.in-Ok.ensures.comes c.program_size.ensures.comes

@@ -1,4 +1,4 @@
-use Rattle.std.proofs.Common.{ap, subst, sym, List}
+use Rattle.std.proofs.Common.{◌∙◌, ap, subst, sym, List}
 use Rattle.std.specs.Prelude.{Ok, Err}
 use Rattle.sam_io.specs.Spans.{files_span}
 use Rattle.sam_model.specs.declared.tensors.Tensor.{Tensor}
@@ -7,6 +7,8 @@ use Rattle.traces.specs.Traces.{streams_of}
 use Rattle.parts.specs.Parts.{gives, each_part}
 use Rattle.parts.specs.Answers.{Comes}
 use Rattle.inputs.specs.Tensors.{stored_part, AreStored}
+use Rattle.graph.specs.declared.graphs.Graph.{Graph}
+use Rattle.sam_cmd.specs.Chosen.{chosen}
 use Rattle.sam_cmd.proofs.TensorLemmas.{comes_refused, comes_over}
 use Rattle.sam_cmd.proofs.streams.program_streams.Goals as goal
 
@@ -14,7 +16,7 @@ pub returns-in-Err-clause-comes : goal.returns-in-Err-clause-comes
 returns-in-Err-clause-comes g c =
     let p = c.args.p.now in
     let files = files_span g.F.Files c.args.files.now c.storages.new.files in
-    comes_refused p.tensors (λ entries. gives (Ok (streams_of p entries))) files c.in-Err.fault
+    comes_refused p.tensors (λ entries. gives (Ok (streams_of p (chosen c.args.lowering p) entries))) files c.in-Err.fault
     (subst (λ (ts : List Tensor). Comes (each_part stored_part ts) files (Err c.in-Err.fault)) c.as_slice.ensures c.in-Err.ensures.comes)
 
 pub returns-in-Ok-streams-clause-comes : goal.returns-in-Ok-streams-clause-comes
@@ -25,7 +27,8 @@ returns-in-Ok-streams-clause-comes g c =
     let stored =
     subst (λ (ts : List Tensor). each_part stored_part ts files.told (Ok storages)) c.as_slice.ensures
     c.in-Ok-storages.ensures.comes in
-    comes_over p.tensors (λ entries. gives (Ok (streams_of p entries))) files storages (Ok c.in-Ok-streams.text) stored
-    (λ entries are. λ files.
-    ap Ok (c.in-Ok-streams.ensures.of_program p entries c.in-Ok.ensures
-    (subst (λ (s : List Ranked). AreStored p.tensors entries s) (sym c.as_slice-in-Ok-storages.ensures) are)))
+    comes_over p.tensors (λ entries. gives (Ok (streams_of p (chosen c.args.lowering p) entries))) files storages
+    (Ok c.in-Ok-streams.text) stored (λ entries are. λ files.
+    ap Ok (c.in-Ok-streams.ensures.of_program p entries
+    (subst (λ (s : List Ranked). AreStored p.tensors entries s) (sym c.as_slice-in-Ok-storages.ensures) are)
+    ∙ ap (λ (graph : Graph). streams_of p graph entries) c.in-Ok.ensures.is_chosen))
