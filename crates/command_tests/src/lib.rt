@@ -11,6 +11,8 @@ mod command_lines;
 #[cfg(test)]
 mod faults;
 #[cfg(test)]
+mod fused;
+#[cfg(test)]
 mod graphs;
 #[cfg(test)]
 mod limits;
