@@ -45,7 +45,7 @@ class Pictures(unittest.TestCase):
             self.assertIn("is not the JSON of a graph", done.stderr)
 
     def test_wrong_words(self):
-        for words in (["--streams"], ["--count"], ["--waiting"], ["p.sam", "--capacity", "1"], ["p.sam", "--streams", "--count"]):
+        for words in (["--streams"], ["--count"], ["--waiting"], ["--fused"], ["p.sam", "--capacity", "1"], ["p.sam", "--streams", "--count"]):
             self.assertEqual(draw("", *words).returncode, 2, words)
 
     def test_streams(self):

@@ -65,6 +65,12 @@ class Runs(unittest.TestCase):
                 self.assertEqual(drawn.count("node"), len(graph["blocks"]), program)
                 self.assertEqual(drawn.count("edge"), len(graph["channels"]), program)
 
+    @unittest.skipUnless(shutil.which("dot"), "there is no graphviz")
+    def test_draw_a_fused_graph(self):
+        done = tool("draw", os.path.join(EXAMPLES, "fused-sum", "p.sam"), "--fused", "--count", "--svg")
+        drawn = re.findall(r'class="(node|edge)"', done.stdout)
+        self.assertEqual((done.stderr, drawn.count("node"), drawn.count("edge")), ("", 16, 24))
+
     def test_refusals_are_those_of_sam(self):
         program = os.path.join(self.folder.name, "p.sam")
         with open(program, "w", encoding="ascii") as file:
@@ -110,6 +116,13 @@ class Runs(unittest.TestCase):
         self.assertEqual(tool("page", program, "--of", "7=1", "--out", self.page).stderr, "")
         self.assertTrue("block 4 waits: channel 7 is full" in dumped(self.page, ""))
 
+    @unittest.skipUnless(shutil.which("dot") and BROWSER, "there is no graphviz or no browser")
+    def test_page_of_a_fused_graph(self):
+        program = os.path.join(EXAMPLES, "fused-sum", "p.sam")
+        self.assertEqual(tool("page", program, "--fused", "--capacity", "1", "--out", self.page).stderr, "")
+        shown = dumped(self.page, "#channel23")
+        self.assertTrue("Channel 23: " in shown and " waits: " not in shown)
+
     @unittest.skipUnless(shutil.which("dot"), "there is no graphviz")
     def test_pages_of_every_example(self):
         for program in examples():
@@ -122,9 +135,16 @@ class Runs(unittest.TestCase):
         rows = [line.split(" | ") for line in done.stdout.splitlines()[2:]]
         self.assertEqual(sorted(row[0].strip("| ") for row in rows), ["i j k", "i k j", "j i k", "j k i", "k i j", "k j i"])
         for row in rows:
-            self.assertEqual(len(row), 8, row)
+            self.assertEqual((len(row), row[2]), (9, "plain"), row)
         with open(plot, encoding="utf-8") as file:
             self.assertEqual(file.read().count("<rect"), 6)
+
+    def test_study_of_both_lowerings(self):
+        done = tool("study", os.path.join(EXAMPLES, "fused-sum", "p.sam"))
+        rows = [line.strip("| ").split(" | ") for line in done.stdout.splitlines()[2:]]
+        self.assertEqual([row[0] for row in rows], ["i j", "i j", "j i", "j i"])
+        self.assertEqual([row[2:5] for row in rows], 2 * [["plain", "24", "38"], ["fused", "16", "24"]])
+        self.assertEqual([row[7] for row in rows[:2]], ["2", "1"])
 
 
 if __name__ == "__main__":
