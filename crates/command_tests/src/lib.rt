@@ -9,6 +9,8 @@ mod channels;
 #[cfg(test)]
 mod command_lines;
 #[cfg(test)]
+mod expressions;
+#[cfg(test)]
 mod faults;
 #[cfg(test)]
 mod fused;

@@ -64,10 +64,10 @@ $ step p.sam
 --- p.sam
 | tensor b 3 d 1 b.tns
 | result x 3 c 1
-| compute x(i) = (b(i))
+| compute x(i) = ((b(i))
 | loops i
 $ step p.sam
-! sam: program line 3: Parenthesis 8
+! sam: program line 3: ExpectedOperator 15
 = 3
 --- p.sam
 | tensor b 4 c 1 b.tns

@@ -27,7 +27,7 @@ tensor b 18446744073709551617 d 1 b.tns|>1: DimensionRange
 tensor b 4 c 1 f|tensor b 4 c 1 f|>2: DuplicateName b
 tensor b 4 c 1 f|result b 4 d 1|>2: DuplicateName b
 tensor b 4 c 1 f|result x 4 d 1|compute y|>2: DenseResult
-result x|compute  x = (b)|loops i,|>2: Parenthesis 6
+result x|compute  x = (b|loops i,|>2: ExpectedOperator 8
 result x| compute x |loops|>2: ExpectedEquals 3
 result x|compute x = 2|loops 2|>3: BadLine
 result x|compute y = 2|loops i||loops|>5: BadLine
@@ -59,6 +59,16 @@ tensor B 2x2x2x2 cccc 1,2,3,4 B.tns|result X 2x2x2 ccc 1,2,3|compute X(h,i,j) = 
 tensor b 4 c 1 f|result x|compute x = b(i)|loops j|compute x = b(i)|>5: ManyStatements
 tensor b 4 c 1 f|result x|compute x = b|loops j k>3: ArityMismatch b
 result x|compute x(i) = 3|loops>2: ArityMismatch x
+tensor B 2x3 cc 1,2 f|tensor d 2 c 1 f|result x 2 c 1|compute x(i) = B(i,j) * sum(k, d(i))|loops>4: UnusedSum k
+tensor B 2x3 cc 1,2 f|tensor d 2 c 1 f|result x 2 c 1|compute x(i) = sum(i, B(i,j)) * sum(k, d(i))|loops>4: UnusedSum k
+tensor B 2x3 cc 1,2 f|tensor d 2 c 1 f|result x 2 c 1|compute x(i) = sum(l, sum(k, B(i,j)))|loops>4: UnusedSum l
+tensor B 2x3 cc 1,2 f|tensor d 2 c 1 f|result x 2 c 1|compute x(i) = sum(i, B(i,j))|loops>4: BoundVariable i
+tensor B 2x3 cc 1,2 f|tensor d 2 c 1 f|result x 2 c 1|compute x(i) = sum(j, B(i,j)) * sum(j, B(i,j))|loops>4: BoundVariable j
+tensor B 2x3 cc 1,2 f|tensor d 2 c 1 f|result x 2 c 1|compute x(i) = B(i,j) * sum(j, B(i,j))|loops>4: BoundVariable j
+tensor d 2 c 1 f|result x 2 c 1|compute x(i) = (d(i)+2)*(d(i)+2)*(d(i)+2)*(d(i)+2)*(d(i)+2)|loops>3: ExpandedTerms
+tensor d 2 c 1 f|result x 2 c 1|compute x(i) = (d(i)*2*2*2)*(d(i)*2*2*2)*d(i)|loops>3: ExpandedFactors
+tensor d 2 c 1 f|result x 2 c 1|compute x(i) = d(i) * (d(i) + 2) + (1 - 2) * 3|loops>3: NoAccess
+tensor B 2x3 cc 1,2 f|tensor d 2 c 1 f|result x 2 c 1|compute x(i) = sum(j, B(i,j)) + sum(j, B(i,j) + d(i)) - (d(i) - 2 * d(i))|loops i j>accepted
 # y = B c|tensor B 3x4 dc 2,1 B.tns||\ttensor c 4 c 1 c.tns\r|result y 3 c 1|compute y(i) = - B(i,j)*c(j)*2 + B(i, j)|loops j i>accepted
 ";
 
@@ -93,7 +103,7 @@ fn texts_are_read(rt: HostRuntime) -> Result<(), Fail> {
     for number in 0..24 {
         assert!(rt; is_right(rt.alloc(), LINES, number)?, "line {number}");
     }
-    for number in 0..25 {
+    for number in 0..35 {
         assert!(rt; is_right(rt.alloc(), CHECKS, number)?, "check {number}");
     }
     Ok(())

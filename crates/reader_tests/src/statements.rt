@@ -35,9 +35,28 @@ x=b+ >ExpectedFactor 5
 x=b*-c>ExpectedFactor 4
 x=b+-c>ExpectedFactor 4
 x==%>ExpectedFactor 2
-x=(b)>Parenthesis 2
-x=-(b)>Parenthesis 3
-x=b*sum(i,c)>SumForm 4
+x=(b)>read
+x=-(b)>read
+x=b*sum(i,c)>read
+x=(b+c)*-(b)>ExpectedFactor 8
+x=-(a - -b)>ExpectedFactor 8
+x=()>ExpectedFactor 3
+x=(b>ExpectedOperator 4
+x=(b))>ExpectedOperator 5
+x=sum>ExpectedOpen 5
+x=sum b>ExpectedOpen 6
+x=sum%>BadChar 5
+x=sum(>ExpectedName 6
+x=sum(2,b)>ExpectedName 6
+x=sum(i)>ExpectedComma 7
+x=sum(i,)>ExpectedFactor 8
+x=sum(i,-sum(j,b(i)*c(j)))*(1-2)>read
+x=((((((((((((((((((((((((((((((((b))))))))))))))))))))))))))))))))>read
+x=(((((((((((((((((((((((((((((((((%>TooDeep 34
+x=((((((((((((((((((((((((((((((((sum (>TooDeep 38
+x=((((((((((((((((((((((((((((((((sum )>ExpectedOpen 38
+x=(1*1*1*1*1*1*1*1*1)>TooManyFactors 18
+x=(b+b+b+b+b+b+b+b+b+b+b+b+b+b+b+b+b)>TooManyTerms 34
 x=18446744073709551616%>NumberTooLarge 2
 x=2b(i)>ExpectedOperator 3
 x=b c>ExpectedOperator 4
@@ -80,7 +99,7 @@ fn is_right(alloc: Global, number: usize) -> Result<bool, Fail> {
 
 #[test]
 fn statements_are_read(rt: HostRuntime) -> Result<(), Fail> {
-    for number in 0..45 {
+    for number in 0..64 {
         assert!(rt; is_right(rt.alloc(), number)?, "statement {number}");
     }
     Ok(())
