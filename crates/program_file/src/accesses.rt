@@ -239,12 +239,9 @@ impl Accesses<'_> {
         ensures { LeavesProgram result (λ _. vars.new)
             (bind_accesses self.now.line self.now.tensors.now self.now.result.now vars.old (map (λ a. a.now) accesses.now)) }
     {
-        match accesses {
-            [] => Ok(()),
-            [access, rest @ ..] => {
-                self.bind_right(alloc, vars, access)?;
-                self.bind_accesses(alloc, vars, rest)
-            }
+        for access in accesses {
+            self.bind_right(alloc, vars, access)?;
         }
+        Ok(())
     }
 }

@@ -19,16 +19,12 @@ use std::alloc::{AllocError, Global};
 pub(crate) fn unused<'a>(vars: &[Variable], sums: &[&'a Name]) -> Option<&'a Name>
     ensures { option_copied result ≡ unused vars.now (map (λ v. v.now) sums.now) }
 {
-    match sums {
-        [] => None,
-        [first, rest @ ..] => {
-            if is_known(first.as_bytes(), vars) {
-                unused(vars, rest)
-            } else {
-                Some(*first)
-            }
+    for sum in sums {
+        if !is_known(sum.as_bytes(), vars) {
+            return Some(*sum);
         }
     }
+    None
 }
 
 #[tactic(auto, unfolding(crate::specs::Checks::has_named))]

@@ -14,16 +14,16 @@ use std::alloc::{AllocError, Global};
 fn is_twice(number: u64, numbers: &[u64]) -> bool
     ensures { result ≡ is_twice number numbers.now }
 {
-    match numbers {
-        [] => false,
-        [first, rest @ ..] => {
-            if number == *first {
-                is_in(number, rest)
-            } else {
-                is_twice(number, rest)
+    let mut stood = false;
+    for other in numbers {
+        if *other == number {
+            if stood {
+                return true;
             }
+            stood = true;
         }
     }
+    false
 }
 
 /// Appends the variables of the sums in an expression, an outer one before those within it.
@@ -72,17 +72,13 @@ fn wrong_among(
 ) -> Result<Option<ProgramKind>, AllocError>
     ensures { IfOk result (λ fault. fault ≡ wrong_among names.now left.now (tree_of e.now) vars.now) }
 {
-    match vars {
-        [] => Ok(None),
-        [first, rest @ ..] => {
-            if binds_wrong(alloc, left, e, *first)? {
-                let name = Name::from_slice(alloc, name_at(names, *first))?;
-                Ok(Some(ProgramKind::BoundVariable(name)))
-            } else {
-                wrong_among(alloc, names, left, e, rest)
-            }
+    for var in vars {
+        if binds_wrong(alloc, left, e, *var)? {
+            let name = Name::from_slice(alloc, name_at(names, *var))?;
+            return Ok(Some(ProgramKind::BoundVariable(name)));
         }
     }
+    Ok(None)
 }
 
 /// The first sum that is over a variable that it may not be over.

@@ -1,5 +1,0 @@
-use Rattle.std.proofs.Common.{length}
-use Rattle.program_file.proofs.sums.+wrong_among.Given as goal
-
-abbrev pub decreases-wrong_among : goal.decreases-wrong_among
-decreases-wrong_among l = length l.vars.now
