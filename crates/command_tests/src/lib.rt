@@ -9,6 +9,8 @@ mod channels;
 #[cfg(test)]
 mod command_lines;
 #[cfg(test)]
+mod dense_results;
+#[cfg(test)]
 mod expressions;
 #[cfg(test)]
 mod faults;
@@ -34,3 +36,5 @@ mod sizes;
 mod threads;
 #[cfg(test)]
 mod transcripts;
+#[cfg(test)]
+mod verify;

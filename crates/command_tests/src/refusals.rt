@@ -55,14 +55,6 @@ $ check p.sam
 = 3
 --- p.sam
 | tensor b 3 d 1 b.tns
-| result x 3 d 1
-| compute x(i) = b(i)
-| loops i
-$ step p.sam
-! sam: program line 2: DenseResult
-= 3
---- p.sam
-| tensor b 3 d 1 b.tns
 | result x 3 c 1
 | compute x(i) = ((b(i))
 | loops i

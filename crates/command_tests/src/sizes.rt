@@ -19,7 +19,7 @@ const SIZES: &str = r"# a product of two vectors needs no more than one token of
 $ size p.sam
 > capacity 1
 $ size p.sam --capacity 1
-! sam: usage: sam COMMAND SUBJECT [--capacity N] [--of C=N,..] [--schedule FILE] [--fused]
+! sam: usage: sam COMMAND SUBJECT [GRAPH] [--capacity N] [--of C=N,..] [--schedule FILE] [--fused]
 = 2
 $ size q.sam
 ! sam: missing q.sam

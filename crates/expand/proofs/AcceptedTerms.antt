@@ -7,7 +7,6 @@ use Rattle.std.proofs.lemmas.Bool.{and_parts, or_cases, or_left, or_right, eq-eq
 use Rattle.std.proofs.lemmas.List.{length-map}
 use Rattle.sam_base.specs.Each.{Each}
 use Rattle.sam_model.specs.declared.tensors.Tensor.{Tensor}
-use Rattle.sam_model.specs.declared.tensors.Entries.{Entries}
 use Rattle.sam_model.specs.declared.program.Factor.{Factor}
 use Rattle.sam_model.specs.declared.program.Factor.TheVariants.{Access, Literal}
 use Rattle.sam_model.specs.declared.program.Term.{Term}
@@ -17,10 +16,9 @@ use Rattle.sam_model.specs.Lists.{items_at, is_in, tuples, same_list}
 use Rattle.sam_model.specs.Denote.{has_var, den, pat}
 use Rattle.sam_model.specs.Accepted.{distinct, is_order, is_dimension, is_well_formed, is_operand, access_fits, tensor_passes, factor_fits, term_has, terms_have, term_fits, stands}
 use Rattle.sam_model.specs.Expressions.{expanded_tops}
-use Rattle.sam_model.specs.ResultText.{listing_text, result_text}
 use Rattle.sam_model.specs.Scopes.{are_in_range, used_vars, bound_vars, free_vars, are_apart, implied_of, top_fits}
 use Rattle.sam_model.specs.Program.{accepted}
-use Rattle.sam_model.specs.Statement.{denoted_at, found_at, statement_text}
+use Rattle.sam_model.specs.Statement.{denoted_at, found_at}
 use Rattle.sam_model.proofs.AcceptedPrograms.{FitParts, well-formed, access-parts, term-parts}
 use Rattle.sam_model.proofs.AcceptedPrograms.{accepted-parts, result-formed, terms-expanded, each-top-fits}
 use Rattle.sam_model.proofs.Lists.{not-true, filter-ext-each, map-ext-each, Each-filter, Each-weaker}
@@ -186,10 +184,6 @@ terms-tell p es e =
 
     each_long : Each Long all
     each_long = Each-weaker (λ x. length x ≡ length (items_at p.result.dims p.result.order)) Long (λ x l. l ∙ same) all (tuples-long (items_at p.result.dims p.result.order))
-
--- the text of the result by its terms is that of the statement
-pub terms-text : (p : Program) (es : List Entries) → accepted p ≡ true → result_text p es ≡ statement_text p es
-terms-text p es e = ap (listing_text p.result.order) (terms-tell p es e)
 
 -- ---- products
 

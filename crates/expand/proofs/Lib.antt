@@ -1,5 +1,7 @@
 mod Worked
 pub mod AcceptedTerms
+pub mod Nothing
+pub mod Closing
 pub mod Equal
 pub mod ValueLaws
 pub mod Over

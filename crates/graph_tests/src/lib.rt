@@ -2,6 +2,10 @@
 #![tactic(auto)]
 
 #[cfg(test)]
+mod building;
+#[cfg(test)]
+mod faults;
+#[cfg(test)]
 mod labels;
 #[cfg(test)]
 mod wiring;

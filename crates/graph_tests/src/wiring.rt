@@ -1,65 +1,12 @@
 //! Which small graphs are well formed, and the order of their blocks.
 
+use crate::building::{Ends, Port, graph_of};
 use graph::Kind::{
     Array, Cast, Drain, DropValue, Intersect, Mul, Root, Scan, WriteLevel, WriteValue,
 };
-use graph::{Block, Channel, Graph, Kind, forward_order, well_formed};
-use sam_base::{Items, Nums};
+use graph::{Kind, forward_order, well_formed};
 use std::alloc::{AllocError, Global};
 use std::test::Fail;
-use stream_model::{Attr, Label, Tree};
-
-/// A port's block, and the channel there.
-type Port = (usize, u64);
-
-/// The block and port from which a channel leads, and those to which it leads.
-type Ends = (u32, u32, u32, u32);
-
-/// The channels at the ports of a block.
-fn ports_of(alloc: Global, ports: &[Port], block: usize) -> Result<Nums, AllocError> {
-    let mut channels = Nums::new(alloc);
-    for (at, channel) in ports {
-        if *at == block {
-            channels.push(*channel)?;
-        }
-    }
-    Ok(channels)
-}
-
-fn blocks_of(
-    alloc: Global,
-    kinds: &[Kind],
-    ins: &[Port],
-    outs: &[Port],
-) -> Result<Items<Block>, AllocError> {
-    let mut blocks = Items::new(alloc);
-    for (b, kind) in kinds.iter().enumerate() {
-        blocks.push(Block {
-            kind: *kind,
-            ins: ports_of(alloc, ins, b)?,
-            outs: ports_of(alloc, outs, b)?,
-        })?;
-    }
-    Ok(blocks)
-}
-
-fn channels_of(alloc: Global, ends: &[Ends]) -> Result<Items<Channel>, AllocError> {
-    let label = Label {
-        tree: Tree::Root,
-        attr: Attr::Literal(0),
-    };
-    let mut channels = Items::new(alloc);
-    for (from_block, from_port, to_block, to_port) in ends {
-        channels.push(Channel {
-            from_block: *from_block,
-            from_port: *from_port,
-            to_block: *to_block,
-            to_port: *to_port,
-            label,
-        })?;
-    }
-    Ok(channels)
-}
 
 /// The blocks in order, or no where the graph is not well formed.
 fn order_text(
@@ -69,10 +16,7 @@ fn order_text(
     outs: &[Port],
     ends: &[Ends],
 ) -> Result<String, AllocError> {
-    let g = Graph {
-        blocks: blocks_of(alloc, kinds, ins, outs)?,
-        channels: channels_of(alloc, ends)?,
-    };
+    let g = graph_of(alloc, kinds, ins, outs, ends)?;
     if g.blocks.len() > 100 {
         return String::from_str(alloc, "too many blocks");
     }

@@ -1,5 +1,5 @@
 -- The names of a program that is read.
-use Rattle.std.proofs.Common.{◌≡◌, ℕ, ◌+◌, List, [], ◌∷◌, ◌++◌, length, Bool, true, false, not, ◌&&◌, cond, Option, Some, None, Ok, refl, ap, subst, ◌∙◌, inl, inr}
+use Rattle.std.proofs.Common.{◌≡◌, ℕ, ◌+◌, List, [], ◌∷◌, ◌++◌, length, Bool, true, false, not, ◌&&◌, cond, Option, Some, None, Ok, refl, sym, ap, subst, ◌∙◌, inl, inr}
 use Rattle.std.specs.List.{list_all}
 use Rattle.std.proofs.lemmas.Bool.{and_parts, and_from}
 use Rattle.std.proofs.lemmas.List.Folds.{list_all-append}
@@ -9,13 +9,13 @@ use Rattle.sam_text.specs.Words.{words}
 use Rattle.sam_text.specs.Names.{is_name}
 use Rattle.sam_model.specs.declared.tensors.Tensor.{Tensor}
 use Rattle.sam_model.specs.declared.program.Program.{Program}
-use Rattle.sam_model.specs.Accepted.{is_dimension, is_compressed, is_taken}
+use Rattle.sam_model.specs.Accepted.{is_dimension, is_taken}
 use Rattle.program_file.specs.Refusals.{and_then}
 use Rattle.program_file.specs.Keywords.{tensor_word, result_word, starts, others}
-use Rattle.program_file.specs.Declarations.{is_shape, is_printable, tensor_with, scalar, tensor_of, result_of, declared, all_compressed}
+use Rattle.program_file.specs.Declarations.{is_shape, is_printable, tensor_with, scalar, tensor_of, result_of, declared}
 use Rattle.program_file.specs.Files.{result_declared, declarations_in, file_reading}
 use Rattle.program_file.specs.Programs.{bound_of, statement_checked, program_of, checked, program_reading}
-use Rattle.program_file.proofs.DeclaredLemmas.{then-ok, if-ok, ok-same, no_refusal, parts-ok}
+use Rattle.program_file.proofs.DeclaredLemmas.{then-ok, if-ok, ok-same, no_refusal, group-ok, group-result, parts-ok}
 use Rattle.inputs.specs.Programs.{HasNames}
 
 -- ---- a declaration
@@ -45,9 +45,6 @@ declared-some tensors line (Some x) t e = elim (if-ok (not (list_all is_dimensio
   ]
 ]
 
-compressed-same : (line : ℕ) (x t : Tensor) → all_compressed line x ≡ Ok t → x ≡ t
-compressed-same line x t e = elim (if-ok (list_all is_compressed x.formats) _ _ t e) [ inl h ↦ cc | inr h ↦ absurd (no_refusal _ _ t refl h.1) ]
-
 some-if : (b : Bool) (o : Option Tensor) (t : Tensor) → cond b o None ≡ Some t → o ≡ Some t
 some-if true o t e = e
 some-if false o t e = absurd cc
@@ -55,9 +52,8 @@ some-if false o t e = absurd cc
 declared_result-named : (tensors : List Tensor) (l : NumberedLine) (t : Tensor) → result_declared tensors l ≡ Ok t → is_name t.name ≡ true
 declared_result-named tensors l t e =
     let found = cond (starts result_word (words l.text)) (result_of (others (words l.text))) None in
-    let a = then-ok (declared tensors l.number found) (all_compressed l.number) t e in
-    let was = some-if (starts result_word (words l.text)) _ _ (declared-some tensors l.number found a.value a.was) in
-    subst (λ (x : Tensor). is_name x.name ≡ true) (compressed-same l.number a.value t a.next) (result-named (others (words l.text)) a.value was)
+    let was = some-if (starts result_word (words l.text)) _ _ (declared-some tensors l.number found t e) in
+    result-named (others (words l.text)) t was
 
 -- ---- the declarations of a file
 
@@ -68,8 +64,8 @@ record Named (tensors : List Tensor) (result : Tensor) : Type 0 where
   each : are_named tensors ≡ true
   last : is_name result.name ≡ true
 
-declarations-named : (past : ℕ) (tensors : List Tensor) (ls : List NumberedLine) (found : (List Tensor × Tensor) × List NumberedLine) → are_named tensors ≡ true
-    → declarations_in past tensors ls ≡ Ok found → Named found.0.0 found.0.1
+declarations-named : (past : ℕ) (tensors : List Tensor) (ls : List NumberedLine) (found : (List Tensor × (Tensor × ℕ)) × List NumberedLine) → are_named tensors ≡ true
+    → declarations_in past tensors ls ≡ Ok found → Named found.0.0 found.0.1.0
 declarations-named past tensors [] found h e = absurd (no_refusal _ _ found refl e)
 declarations-named past tensors (l ∷ ls) found h e = elim (if-ok (starts tensor_word (words l.text)) _ _ found e) [
   | inl k ↦
@@ -78,9 +74,9 @@ declarations-named past tensors (l ∷ ls) found h e = elim (if-ok (starts tenso
       let more = list_all-append (λ (t : Tensor). is_name t.name) tensors (a.value ∷ []) ∙ and_from _ _ h (and_from _ _ named refl) in
       declarations-named past (tensors ++ a.value ∷ []) ls found more a.next
   | inr k ↦
-      let a = then-ok (result_declared tensors l) (λ result. Ok ((tensors, result), ls)) found k.1 in
-      let same : ((tensors, a.value), ls) ≡ found = ok-same ((tensors, a.value), ls) found a.next in
-      let F : (List Tensor × Tensor) × List NumberedLine → Type 0 = λ x. Named x.0.0 x.0.1 in
+      let a = then-ok (result_declared tensors l) (λ result. Ok ((tensors, (result, l.number)), ls)) found k.1 in
+      let same : ((tensors, (a.value, l.number)), ls) ≡ found = ok-same ((tensors, (a.value, l.number)), ls) found a.next in
+      let F : (List Tensor × (Tensor × ℕ)) × List NumberedLine → Type 0 = λ x. Named x.0.0 x.0.1.0 in
       subst F same (record { each = h; last = declared_result-named tensors l a.value a.was })
 ]
 
@@ -94,7 +90,10 @@ read-named text p e =
     let file = then-ok (file_reading text) checked p e in
     let parts = parts-ok past ls file.value file.was in
     let named = declarations-named past [] ls parts.declared refl parts.declared_in in
+    let first = parts.declared.0.1 in
+    let result = group-result past first parts.declared.1 parts.group.0 (group-ok past first parts.declared.1 parts.group parts.grouped) in
+    let last = subst (λ (t : Tensor). is_name t.name ≡ true) (sym result) named.last in
     let bound = then-ok (bound_of file.value) (λ vars. and_then (statement_checked file.value vars) (λ _. Ok (program_of file.value vars))) p file.next in
     let right = then-ok (statement_checked file.value bound.value) (λ _. Ok (program_of file.value bound.value)) p bound.next in
     subst HasNames (ap (λ f. program_of f bound.value) parts.is ∙ ok-same (program_of file.value bound.value) p right.next)
-    (record { tensors = named.each; result = named.last })
+    (record { tensors = named.each; result = last })

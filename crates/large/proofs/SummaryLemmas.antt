@@ -1,5 +1,5 @@
 -- What is told of a run is told of the program's result and streams.
-use Rattle.std.proofs.Common.{◌≡◌, true, ◌∙◌, ◌+◌, ◌%◌, ◌^◌, ℕ, ap, sym, refl, List, [], ◌∷◌, length}
+use Rattle.std.proofs.Common.{◌≡◌, true, false, ◌∙◌, ◌+◌, ◌%◌, ◌^◌, ℕ, ap, sym, refl, List, [], ◌∷◌, length}
 use Rattle.std.specs.Prelude.{sum}
 use Rattle.std.specs.List.{enumerate_from}
 use Rattle.std.proofs.lemmas.List.{length-map}
@@ -9,9 +9,13 @@ use Rattle.sam_model.specs.declared.tensors.Entries.{Entries}
 use Rattle.sam_model.specs.declared.program.Program.{Program}
 use Rattle.sam_model.specs.Children.{Ranked}
 use Rattle.sam_model.specs.Program.{accepted}
-use Rattle.sam_model.specs.Statement.{statement_entries}
+use Rattle.sam_model.specs.Pattern.{ends_dense}
+use Rattle.sam_model.specs.Statement.{found_entries, statement_entries}
 use Rattle.sam_model.specs.Listing.{path_of}
+use Rattle.sam_model.proofs.AcceptedPrograms.{result-formed}
 use Rattle.expand.proofs.AcceptedTerms.{terms-tell}
+use Rattle.expand.proofs.Closing.{closed-is-listed}
+use Rattle.tns_io.proofs.FoundEntries.{found-stays}
 use Rattle.block_core.specs.Written.{vals_of}
 use Rattle.graph.specs.declared.graphs.Graph.{Graph}
 use Rattle.graph.specs.Writers.{value_stream}
@@ -28,16 +32,20 @@ listed : (path : ℕ → List ℕ) (n : ℕ) (vals : List ℕ)
 listed path n [] = refl
 listed path n (v ∷ vals) = ap (λ (vs : List ℕ). v ∷ vs) (listed path (n + 1) vals)
 
-module _ (p : Program) (ok : accepted p ≡ true) (g : Graph) (lowered : Lowered p g) (es : List Entries) (storages : List Ranked)
+module _ (p : Program) (ok : accepted p ≡ true) (last : ends_dense p.result ≡ false) (g : Graph) (lowered : Lowered p g) (es : List Entries) (storages : List Ranked)
     (are : AreStored p.tensors es storages) where
   abbrev values : List ℕ
   values = vals_of (value_stream storages g)
+
+  -- the last level isn't dense, so the result lists what is found
+  lists-found : statement_entries p es ≡ found_entries p es
+  lists-found = sym (closed-is-listed p es ok) ∙ found-stays p es (result-formed p ok) last
 
   entry_values : map number_of (statement_entries p es) ≡ values
   entry_values =
       let carries : Carries p g es = lowered.computes.carries es are.each in
       let w = written_of p g es in
-      ap (map number_of) (sym (terms-tell p es ok) ∙ sym carries.written_tensor)
+      ap (map number_of) (lists-found ∙ sym (terms-tell p es ok) ∙ sym carries.written_tensor)
       ∙ listed (path_of w.segs w.crds) 0 w.vals
       ∙ ap (λ (s : List Ranked). vals_of (value_stream s g)) (sym are.are_stored)
 

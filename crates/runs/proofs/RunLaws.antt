@@ -1,5 +1,5 @@
 -- The laws of runs, from the laws of plays.
-use Rattle.std.proofs.Common.{◌≡◌, ◌∙◌, ℕ, List, [], ◌∷◌, length, ap, sym, subst, refl, Ok, Err}
+use Rattle.std.proofs.Common.{◌≡◌, ◌∙◌, ℕ, List, [], ◌∷◌, length, sym, subst, refl, inl, inr, Err}
 use Rattle.std.specs.Prelude.{Option, None, Result}
 use mathlib.Core.List.{map}
 use Rattle.sam_base.specs.declared.faults.Fault.{Fault}
@@ -9,7 +9,6 @@ use Rattle.sam_model.specs.declared.tensors.Entries.{Entries}
 use Rattle.sam_model.specs.declared.program.Program.{Program}
 use Rattle.sam_model.specs.Children.{Ranked}
 use Rattle.sam_model.specs.Lists.{below}
-use Rattle.sam_model.specs.Statement.{statement_text}
 use Rattle.graph.specs.declared.graphs.Graph.{Graph}
 use Rattle.graph.specs.Wiring.{WellFormed}
 use Rattle.graph.specs.WholeStreams.{Consistent}
@@ -23,6 +22,7 @@ use Rattle.custard_lower.specs.Lowered.{Computes, storages_of}
 use Rattle.machines.proofs.UnboundedRuns.{never-stalls}
 use Rattle.runs.proofs.CapacityLemmas.{unlimited}
 use Rattle.runs.specs.Capacities.{capacity_at}
+use Rattle.runs.specs.Results.{Entry, result_of}
 use Rattle.runs.specs.Runs.{AnsweredAt}
 use Rattle.runs.specs.Laws.{RunsToOneAnswer, RunsToSomeAnswer, AmpleRoomFinishes, UnlimitedFinishes}
 
@@ -38,25 +38,25 @@ module _ (p : Program) (es : List Entries) (storages : List Ranked) (g : Graph) 
       one.3 s ends.reached ends.stuck ∙ sym (one.3 t other.reached other.stuck)
 
   -- where one answer is given
-  same_at : (end : State) (a b : Result (List ℕ) Fault) → AnsweredAt p es net end a → AnsweredAt p es net end b → a ≡ b
-  same_at end (Ok x) (Ok y) (finished, is) (other, so) = ap Ok (is ∙ sym so)
-  same_at end (Ok x) (Err f) (finished, is) (unfinished, so) = absurd (unfinished finished)
-  same_at end (Err e) (Ok y) (unfinished, is) (finished, so) = absurd (unfinished finished)
-  same_at end (Err e) (Err f) (unfinished, is) (other, so) = ap Err (is ∙ sym so)
+  same_at : (end : State) (a b : Result (List Entry) Fault) → AnsweredAt p es net end a → AnsweredAt p es net end b → a ≡ b
+  same_at end a b (inl (finished, is)) (inl (other, so)) = is ∙ sym so
+  same_at end a b (inl (finished, is)) (inr (unfinished, so)) = absurd (unfinished finished)
+  same_at end a b (inr (unfinished, is)) (inl (finished, so)) = absurd (unfinished finished)
+  same_at end a b (inr (unfinished, is)) (inr (other, so)) = is ∙ sym so
 
   -- and some answer is
   some_at : (end : State) → Reached net (rooms_of caps) end → (list : List Waiting) → waiting_list net end ≡ list →
-      (a : Result (List ℕ) Fault) × AnsweredAt p es net end a
+      (a : Result (List Entry) Fault) × AnsweredAt p es net end a
   some_at end reached [] none =
       let kept = always-kept net (rooms_of caps) end (graphs-are-wired storages g formed consistent) reached in
-      (Ok (statement_text p es), (none_waiting net (rooms_of caps) end kept none, refl))
+      (result_of p es, inl (none_waiting net (rooms_of caps) end kept none, refl))
   some_at end reached (w ∷ list) waits =
-      (Err (Stalled (waiting_list net end)), (some_waiting net end (λ none. cc), refl))
+      (Err (Stalled (waiting_list net end)), inr (some_waiting net end (λ none. cc), refl))
 
   -- at a finished state the tensor is answered
-  finished_at : (end : State) (a : Result (List ℕ) Fault) → Finished net end → AnsweredAt p es net end a → a ≡ Ok (statement_text p es)
-  finished_at end (Ok text) finished (other, is) = ap Ok is
-  finished_at end (Err f) finished (unfinished, is) = absurd (unfinished finished)
+  finished_at : (end : State) (a : Result (List Entry) Fault) → Finished net end → AnsweredAt p es net end a → a ≡ result_of p es
+  finished_at end a finished (inl (other, is)) = is
+  finished_at end a finished (inr (unfinished, is)) = absurd (unfinished finished)
 
 -- ---- over the entries of a program
 

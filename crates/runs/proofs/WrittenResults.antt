@@ -1,57 +1,33 @@
--- What a graph that computes a program's tensor leaves, as the text of the result asks for it.
-use Rattle.std.proofs.Common.{◌≡◌, ℕ, zero, suc, ◌+◌, ◌≤◌, Bool, true, false, cond, List, [], ◌∷◌, length, refl, sym, ap, subst, ◌∙◌, arith, ltb}
-use Rattle.std.specs.List.{filter, flat_map, list_all, range_with_len}
-use Rattle.std.proofs.lemmas.Bool.Decides.{nat_tests}
-use Rattle.std.proofs.lemmas.Bool.{and_parts}
+-- What a graph that computes a program's tensor leaves, as closing it and its text ask for it.
+use Rattle.std.proofs.Common.{◌≡◌, ℕ, true, List, length, sym, ap, subst, ◌∙◌}
+use Rattle.std.specs.List.{filter, list_all}
 use Rattle.std.proofs.lemmas.List.{length-map}
-use Rattle.std.proofs.lemmas.List.Folds.{list_all-append, list_all-map}
-use mathlib.Core.List.{map}
 use Rattle.sam_model.specs.declared.tensors.Entries.{Entries}
 use Rattle.sam_model.specs.declared.program.Program.{Program}
 use Rattle.sam_model.specs.Children.{Ranked}
 use Rattle.sam_model.specs.Lists.{tuples, within, items_at}
 use Rattle.sam_model.specs.Denote.{den, pat, result_entries}
+use Rattle.sam_model.specs.Program.{accepted}
+use Rattle.sam_model.specs.Statement.{found_entries}
+use Rattle.sam_model.proofs.Lists.{Each-filter, Each-mapped}
+use Rattle.expand.proofs.AcceptedTerms.{terms-tell}
+use Rattle.tns_io.proofs.FoundEntries.{all-pass, tuples-within}
 use Rattle.sam_model.specs.Listing.{InRange, listing}
 use Rattle.stream_model.specs.Labels.{result_sizes}
 use Rattle.graph.specs.declared.graphs.Graph.{Graph}
 use Rattle.graph.specs.Writers.{written_listing}
 use Rattle.custard_lower.specs.Lowered.{Carries, Computes, storages_of, written_of}
 use Rattle.inputs.specs.Tensors.{AreStored}
+use Rattle.runs.specs.Results.{IsOf}
 
 -- ---- the entries of a result
-
--- what all items pass, those that are kept pass
-kept_pass : {A : Type 0} (test keep : A → Bool) (xs : List A) → list_all test xs ≡ true → list_all test (filter keep xs) ≡ true
-kept_pass test keep [] all = refl
-kept_pass {A = A} test keep (x ∷ xs) all =
-    let both = and_parts (test x) (list_all test xs) all in
-    by_case (keep x) both.0 (kept_pass test keep xs both.1)
-  where
-    by_case : (b : Bool) → test x ≡ true → list_all test (filter keep xs) ≡ true → list_all test (cond b (x ∷ filter keep xs) (filter keep xs)) ≡ true
-    by_case true here rest = rw (here, rest) refl
-    by_case false here rest = rest
-
--- tuples that begin with one of the numbers from c on
-headed_within :
-    (s : ℕ) (sizes : List ℕ) → list_all (within sizes) (tuples sizes) ≡ true → (c n : ℕ) → c + n ≤ s →
-    list_all (within (s ∷ sizes)) (flat_map (λ c. map (λ u. c ∷ u) (tuples sizes)) (range_with_len c n)) ≡ true
-headed_within s sizes rest c zero fits = refl
-headed_within s sizes rest c (suc n) fits =
-    let below : ltb c s ≡ true = grind (arith, nat_tests, fits) in
-    let here : list_all (within (s ∷ sizes)) (map (λ u. c ∷ u) (tuples sizes)) ≡ true
-    = list_all-map (within (s ∷ sizes)) (λ u. c ∷ u) (tuples sizes) ∙ rw below rest in
-    list_all-append (within (s ∷ sizes)) (map (λ u. c ∷ u) (tuples sizes)) _
-    ∙ rw (here, headed_within s sizes rest (c + 1) n (omega (arith, fits))) refl
-
-tuples_within : (sizes : List ℕ) → list_all (within sizes) (tuples sizes) ≡ true
-tuples_within [] = refl
-tuples_within (s ∷ sizes) = headed_within s sizes (tuples_within sizes) 0 s (omega arith)
 
 -- the coordinates of each are below the sizes of the result
 entries_within : (p : Program) (es : List Entries) → list_all (λ entry. within (result_sizes p) entry.0) (result_entries p es) ≡ true
 entries_within p es =
-    list_all-map {X = List ℕ × ℕ} (λ entry. within (result_sizes p) entry.0) (λ x. (x, den p es x)) (filter (pat p es) (tuples (result_sizes p)))
-    ∙ kept_pass (within (result_sizes p)) (pat p es) (tuples (result_sizes p)) (tuples_within (result_sizes p))
+    all-pass {A = List ℕ × ℕ} (λ entry. within (result_sizes p) entry.0) (result_entries p es)
+    (Each-mapped (λ entry. within (result_sizes p) entry.0 ≡ true) (λ x. (x, den p es x)) (filter (pat p es) (tuples (result_sizes p)))
+    (Each-filter (λ x. within (result_sizes p) x ≡ true) (pat p es) (tuples (result_sizes p)) (tuples-within (result_sizes p))))
 
 -- ---- such a graph over the stored tensors
 
@@ -79,3 +55,10 @@ module _ (p : Program) (g : Graph) (computes : Computes p g) (es : List Entries)
       list_all (λ entry. within (items_at p.result.dims p.result.order) entry.0) (listing (written_listing stored g (length p.result.order)))
       ≡ true
   written-within = ap (list_all (λ entry. within (result_sizes p) entry.0)) written-tensor ∙ entries_within p es
+
+  -- it is what is found of the statement
+  pub written-found : accepted p ≡ true → listing (written_listing stored g (length p.result.order)) ≡ found_entries p es
+  written-found is_accepted = written-tensor ∙ terms-tell p es is_accepted
+
+  pub written-is-of : IsOf p.result (written_listing stored g (length p.result.order))
+  written-is-of = record { in_range = written-in-range; below = written-within }

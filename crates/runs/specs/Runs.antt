@@ -1,12 +1,11 @@
 -- Where a run of a graph that computes a program's tensor ends, and what is answered there.
-use Rattle.std.specs.Prelude.{◌≡◌, ℕ, List, Option, Result, Ok, Err, length}
+use Rattle.std.specs.Prelude.{◌≡◌, ◌⊎◌, ℕ, List, Option, Result, Ok, Err, length}
 use Rattle.sam_base.specs.declared.faults.Fault.{Fault}
 use Rattle.sam_base.specs.declared.faults.Fault.TheVariants.{Stalled}
 use Rattle.sam_model.specs.declared.tensors.Entries.{Entries}
 use Rattle.sam_model.specs.declared.tensors.Written.{Written}
 use Rattle.sam_model.specs.declared.program.Program.{Program}
 use Rattle.sam_model.specs.Children.{Ranked}
-use Rattle.sam_model.specs.Statement.{statement_text}
 use Rattle.graph.specs.declared.graphs.Graph.{Graph}
 use Rattle.graph.specs.Writers.{written_listing}
 use Rattle.plays.specs.Net.{Net, State, Finished}
@@ -14,23 +13,24 @@ use Rattle.stepper.specs.NetOf.{net_of, rooms_of}
 use Rattle.stepper.specs.Endings.{waiting_list, EndsAt, StallsAt}
 use Rattle.custard_lower.specs.Lowered.{Computes, storages_of}
 use Rattle.parts.specs.Parts.{Part}
+use Rattle.runs.specs.Results.{Entry, result_of}
 use Rattle.runs.specs.declared.running.Outcome.{Outcome}
 use Rattle.runs.specs.declared.running.Outcome.TheVariants.{Listing, Waits}
 
 -- what is answered at that state: the tensor that the statement denotes where all blocks are finished, else the blocks that wait
-abbrev pub AnsweredAt : Program → List Entries → Net → State → Result (List ℕ) Fault → Type 0
-AnsweredAt p es net end (Ok text) = Finished net end × (text ≡ statement_text p es)
-AnsweredAt p es net end (Err fault) = ¬ Finished net end × (fault ≡ Stalled (waiting_list net end))
+abbrev pub AnsweredAt : Program → List Entries → Net → State → Result (List Entry) Fault → Type 0
+AnsweredAt p es net end answer =
+    (Finished net end × (answer ≡ result_of p es)) ⊎ (¬ Finished net end × (answer ≡ Err (Stalled (waiting_list net end))))
 
 -- A run of such a graph over the program's entries, under these capacities, whatever was played first.
-pub record RunsTo (p : Program) (g : Graph) (es : List Entries) (caps : List (Option ℕ)) (answer : Result (List ℕ) Fault) : Type 0 where
+pub record RunsTo (p : Program) (g : Graph) (es : List Entries) (caps : List (Option ℕ)) (answer : Result (List Entry) Fault) : Type 0 where
   pub computes : Computes p g
   pub each : length es ≡ length p.tensors
   pub end : State
   pub ends : EndsAt (net_of (storages_of p es) g) (rooms_of caps) end
   pub answered : AnsweredAt p es (net_of (storages_of p es) g) end answer
 
-abbrev pub run_part : Program → Graph → List Entries → List (Option ℕ) → Part (List ℕ)
+abbrev pub run_part : Program → Graph → List Entries → List (Option ℕ) → Part (List Entry)
 run_part p g es caps told answer = RunsTo p g es caps answer
 
 -- ---- as the machine leaves it

@@ -4,6 +4,7 @@
 
 mod capacities;
 mod laws;
+mod results;
 mod running;
 mod setup;
 mod sizing;
@@ -12,6 +13,7 @@ pub use laws::{
     ample_room_finishes, runs_to_one_answer, runs_to_some_answer, sizes_to_one_answer,
     sufficing_is_sized, unlimited_finishes,
 };
+pub use results::{print_result, program_result};
 pub use running::run_program;
 pub use setup::{Setup, run_setup};
 pub use sizing::size_program;

@@ -1,25 +1,26 @@
 //! A run on the machine of a graph that computes a program's tensor, and what is answered of it.
 
-ghost use Rattle.std.specs.Prelude.{◌≡◌, List, true, IfOk};
+ghost use Rattle.std.specs.Prelude.{◌≡◌, ◌⊎◌, List, true, Err, IfOk};
+ghost use Rattle.sam_base.specs.declared.faults.Fault.TheVariants.{OutOfMemory};
 ghost use Rattle.sam_model.specs.declared.tensors.Entries.{Entries};
 ghost use Rattle.sam_model.specs.Program.{accepted};
 ghost use Rattle.machines.specs.Runnable.{Runnable};
 ghost use Rattle.custard_lower.specs.Lowered.{Computes};
 ghost use Rattle.inputs.specs.Tensors.{AreStored};
-ghost use Rattle.parts.specs.Answers.{ComesAlways};
 ghost use Rattle.runs.specs.Setups.{SetupFits};
-ghost use Rattle.runs.specs.Runs.{Leaves, run_part};
+ghost use Rattle.runs.specs.Results.{IsOf, as_listed};
+ghost use Rattle.runs.specs.Runs.{Leaves, RunsTo};
 
+use crate::results::program_result;
 use crate::setup::Setup;
 use any_block::gather;
 use graph::Graph;
 use levels::Storage;
 use machines::machine_for;
-use sam_base::{Fault, Items, Name, Waiting};
+use sam_base::{Fault, Items, Waiting};
 use sam_model::{Program, Written};
 use std::alloc::{AllocError, Global};
 use stepper::{Ending, NoTap};
-use tns_io::result_text;
 
 /// What a run leaves: the listing that its writers keep, or the blocks that wait.
 #[derive(Drop)]
@@ -48,28 +49,26 @@ fn run(
     }
 }
 
-/// The text of the tensor that a program denotes, from a graph that computes it and its tensors as they are stored; or the blocks that wait,
-/// where the run stalls.
+/// The tensor that a program denotes, from a graph that computes it and its tensors as they are stored. `Stalled` has the blocks that wait
+/// where the run stalls; `ResultTooLarge` comes where the tensor has too many coordinates to be written.
 pub fn run_program(
     alloc: Global,
     p: &Program,
     g: &Graph,
     storages: &[Storage],
     setup: &Setup,
-) -> Result<Name, Fault>
+) -> Result<Written, Fault>
     requires accepted { accepted p.now ≡ true }
     requires computes { Computes p.now g.now }
     requires stored { (entries : List Entries) × AreStored p.now.tensors entries storages.now }
     requires fits { SetupFits g.now setup.now }
-    ensures { (entries : List Entries) → AreStored p.now.tensors entries storages.now →
-        ComesAlways (run_part p.now g.now entries setup.now.capacities.each) result }
+    ensures of { IfOk result (IsOf p.now.result) }
+    ensures runs { (entries : List Entries) → AreStored p.now.tensors entries storages.now →
+        RunsTo p.now g.now entries setup.now.capacities.each (as_listed result) ⊎ (result ≡ Err OutOfMemory) }
 {
     match run(alloc, g, storages, setup, p.result.order.len() as u8) {
         Err(_) => Err(Fault::OutOfMemory),
         Ok(Outcome::Waits(list)) => Err(Fault::Stalled(list)),
-        Ok(Outcome::Listing(written)) => match result_text(alloc, &p.result, &written) {
-            Ok(text) => Ok(text),
-            Err(_) => Err(Fault::OutOfMemory),
-        },
+        Ok(Outcome::Listing(written)) => program_result(alloc, p, written),
     }
 }

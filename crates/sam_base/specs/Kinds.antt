@@ -4,6 +4,8 @@ use Rattle.sam_base.specs.declared.faults.NoteKind.{NoteKind}
 use Rattle.sam_base.specs.declared.faults.NoteKind.TheVariants as note
 use Rattle.sam_base.specs.declared.faults.ProgramKind.{ProgramKind}
 use Rattle.sam_base.specs.declared.faults.ProgramKind.TheVariants as program
+use Rattle.sam_base.specs.declared.faults.Rule.{Rule}
+use Rattle.sam_base.specs.declared.faults.Rule.TheVariants as rule
 use Rattle.sam_base.specs.declared.faults.TnsKind.{TnsKind}
 use Rattle.sam_base.specs.declared.faults.TnsKind.TheVariants as tns
 
@@ -24,13 +26,14 @@ note_kind note.TooManyFactors = codes "TooManyFactors"
 abbrev pub program_kind : ProgramKind → List ℕ
 program_kind program.FileTooLong = codes "FileTooLong"
 program_kind program.ManyStatements = codes "ManyStatements"
+program_kind program.TooManyStatements = codes "TooManyStatements"
 program_kind program.BadLine = codes "BadLine"
 program_kind program.DimensionRange = codes "DimensionRange"
 program_kind (program.DuplicateName name) = codes "DuplicateName " ++ name
-program_kind program.DenseResult = codes "DenseResult"
 program_kind (program.Note kind place) = note_kind kind ++ codes " " ++ decimal place
 program_kind (program.UnknownName name) = codes "UnknownName " ++ name
 program_kind (program.ResultOnRight name) = codes "ResultOnRight " ++ name
+program_kind (program.ScalarOperand name) = codes "ScalarOperand " ++ name
 program_kind (program.ArityMismatch name) = codes "ArityMismatch " ++ name
 program_kind (program.RepeatedVariable name) = codes "RepeatedVariable " ++ name
 program_kind (program.DimMismatch name) = codes "DimMismatch " ++ name
@@ -54,3 +57,10 @@ tns_kind tns.ValueRange = codes "ValueRange"
 tns_kind tns.TooManyEntries = codes "TooManyEntries"
 tns_kind tns.FileTooLong = codes "FileTooLong"
 tns_kind tns.TooManyPositions = codes "TooManyPositions"
+
+abbrev pub rule_kind : Rule → List ℕ
+rule_kind rule.Ports = codes "Ports"
+rule_kind rule.Stray = codes "Stray"
+rule_kind rule.Cycle = codes "Cycle"
+rule_kind rule.Writers = codes "Writers"
+rule_kind rule.Labels = codes "Labels"

@@ -24,7 +24,7 @@ pub enum NoteKind {
     NumberTooLarge,
     /// Something else stands where a factor is expected.
     ExpectedFactor,
-    /// `+`, `-`, `*` or the end was to stand here, after a factor.
+    /// `+`, `-`, `*` or the end was to stand here, after a factor; or `)`, where a parenthesis or sum is open.
     ExpectedOperator,
     /// `+` or `-` stands after the last term that a statement may have.
     TooManyTerms,
@@ -37,22 +37,24 @@ pub enum NoteKind {
 pub enum ProgramKind {
     /// The file has more bytes than a file may have.
     FileTooLong,
-    /// A line after the `loops` line begins a second statement.
+    /// A second statement begins on this line, where there is to be one alone.
     ManyStatements,
+    /// A statement begins on this line after the last that a program file may have.
+    TooManyStatements,
     /// The line isn't of the form that its place asks for, or the text ends too early.
     BadLine,
     /// A dimension is out of range.
     DimensionRange,
     /// The name was declared by an earlier line.
     DuplicateName(Name),
-    /// A level of the result is dense.
-    DenseResult,
     /// The statement is refused at this place of its text, counted in bytes from 0.
     Note { kind: NoteKind, place: u32 },
     /// A name isn't declared, or the one on the left isn't the result's.
     UnknownName(Name),
     /// The result stands on the right.
     ResultOnRight(Name),
+    /// This result of an earlier statement has no dimensions, and stands on the right.
+    ScalarOperand(Name),
     /// An access of this tensor has another number of variables than it has dimensions.
     ArityMismatch(Name),
     /// This variable stands twice in one access.
@@ -148,6 +150,13 @@ pub enum Fault {
     TooManyBlocks(u32),
     /// The graph lacks this channel.
     NoSuchChannel(u32),
+    /// The graph file is refused.
+    Graph,
+    /// The graph breaks this rule at this block, or for stray channels at this channel, and at no lower number.
+    NotVerified {
+        rule: Rule,
+        at: u32,
+    },
     /// A tensor file is refused.
     Tensor {
         name: Name,
@@ -156,6 +165,8 @@ pub enum Fault {
     },
     /// The graph stands still, and these blocks aren't finished.
     Stalled(Items<Waiting>),
+    /// The result has more coordinates than may be written: a dense level of it lists every one.
+    ResultTooLarge,
     /// Standard output could not be written.
     WriteFault,
     /// There is no memory.
@@ -172,11 +183,14 @@ pub fn status(fault: &Fault) -> u8
         Fault::Schedule { .. } => 3,
         Fault::TooManyBlocks(_) => 3,
         Fault::NoSuchChannel(_) => 3,
+        Fault::Graph => 3,
         Fault::Tensor { .. } => 4,
         Fault::Missing(_) => 5,
         Fault::ReadFault(_) => 6,
         Fault::WriteFault => 7,
         Fault::Stalled(_) => 8,
         Fault::OutOfMemory => 9,
+        Fault::ResultTooLarge => 10,
+        Fault::NotVerified { .. } => 11,
     }
 }

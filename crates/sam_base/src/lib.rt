@@ -24,6 +24,9 @@ pub const DIMENSION_MOST: u64 = 2_147_483_647;
 /// The most variables of a statement, and dimensions of a tensor.
 pub const VARIABLES_MOST: usize = 8;
 
+/// The most statements of a program file.
+pub const STATEMENTS_MOST: usize = 8;
+
 /// The most factors of a term, literals included.
 pub const FACTORS_MOST: usize = 8;
 

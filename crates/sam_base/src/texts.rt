@@ -1,10 +1,10 @@
 //! The text of a fault, as it is written on standard error.
 
 ghost use Rattle.std.specs.Prelude.{◌≡◌, ◌++◌, codes, decimal, IfOk, OnOk, OnErr};
-ghost use Rattle.sam_base.specs.Kinds.{note_kind, program_kind, tns_kind};
-ghost use Rattle.sam_base.specs.Texts.{text_line, state_of, text_of, waiting_line, waiting_lines};
+ghost use Rattle.sam_base.specs.Kinds.{note_kind, program_kind, tns_kind, rule_kind};
+ghost use Rattle.sam_base.specs.Texts.{text_line, place_of, state_of, text_of, waiting_line, waiting_lines};
 
-use crate::faults::{Fault, NoteKind, ProgramKind, TnsKind, Waiting};
+use crate::faults::{Fault, NoteKind, ProgramKind, Rule, TnsKind, Waiting};
 use crate::lists::Name;
 use itoa::Buffer;
 use std::alloc::{AllocError, Global};
@@ -39,6 +39,18 @@ fn tns_text(kind: TnsKind) -> &'static str
         TnsKind::TooManyEntries => "TooManyEntries",
         TnsKind::FileTooLong => "FileTooLong",
         TnsKind::TooManyPositions => "TooManyPositions",
+    }
+}
+
+fn rule_text(rule: Rule) -> &'static str
+    ensures { result.now ≡ rule_kind rule }
+{
+    match rule {
+        Rule::Ports => "Ports",
+        Rule::Stray => "Stray",
+        Rule::Cycle => "Cycle",
+        Rule::Writers => "Writers",
+        Rule::Labels => "Labels",
     }
 }
 
@@ -84,13 +96,14 @@ fn program_text(text: &mut Name, kind: &ProgramKind) -> Result<(), AllocError>
     match kind {
         ProgramKind::FileTooLong => word(text, "FileTooLong"),
         ProgramKind::ManyStatements => word(text, "ManyStatements"),
+        ProgramKind::TooManyStatements => word(text, "TooManyStatements"),
         ProgramKind::BadLine => word(text, "BadLine"),
         ProgramKind::DimensionRange => word(text, "DimensionRange"),
         ProgramKind::DuplicateName(name) => named_kind(text, "DuplicateName ", name),
-        ProgramKind::DenseResult => word(text, "DenseResult"),
         ProgramKind::Note { kind, place } => note(text, *kind, *place),
         ProgramKind::UnknownName(name) => named_kind(text, "UnknownName ", name),
         ProgramKind::ResultOnRight(name) => named_kind(text, "ResultOnRight ", name),
+        ProgramKind::ScalarOperand(name) => named_kind(text, "ScalarOperand ", name),
         ProgramKind::ArityMismatch(name) => named_kind(text, "ArityMismatch ", name),
         ProgramKind::RepeatedVariable(name) => named_kind(text, "RepeatedVariable ", name),
         ProgramKind::DimMismatch(name) => named_kind(text, "DimMismatch ", name),
@@ -158,6 +171,31 @@ fn tensor_line(alloc: Global, name: &Name, kind: TnsKind, line: u32) -> Result<N
     Ok(text)
 }
 
+/// Where a rule of graphs fails: at a channel for stray channels, and else at a block.
+fn place_text(rule: Rule) -> &'static str
+    ensures { result.now ≡ place_of rule }
+{
+    match rule {
+        Rule::Stray => "sam: graph channel ",
+        Rule::Ports => "sam: graph block ",
+        Rule::Cycle => "sam: graph block ",
+        Rule::Writers => "sam: graph block ",
+        Rule::Labels => "sam: graph block ",
+    }
+}
+
+/// The line of a rule that a graph breaks.
+fn rule_line(alloc: Global, rule: Rule, at: u32) -> Result<Name, AllocError>
+    ensures { IfOk result (λ text. text ≡ text_line (place_of rule ++ decimal at ++ codes ": " ++ rule_kind rule)) }
+{
+    let mut text = Name::from_slice(alloc, place_text(rule).as_bytes())?;
+    number(&mut text, at)?;
+    word(&mut text, ": ")?;
+    word(&mut text, rule_text(rule))?;
+    text.push(b'\n')?;
+    Ok(text)
+}
+
 /// Why a block waits on a channel.
 fn state_text(full: bool) -> &'static str
     ensures { result.now ≡ state_of full }
@@ -198,7 +236,7 @@ pub fn fault_text(alloc: Global, fault: &Fault) -> Result<Name, AllocError>
     match fault {
         Fault::Usage => Name::from_slice(
             alloc,
-            b"sam: usage: sam COMMAND SUBJECT [--capacity N] [--of C=N,..] [--schedule FILE] [--fused]\n",
+            b"sam: usage: sam COMMAND SUBJECT [GRAPH] [--capacity N] [--of C=N,..] [--schedule FILE] [--fused]\n",
         ),
         Fault::Missing(name) => name_line(alloc, "sam: missing ", name),
         Fault::ReadFault(name) => name_line(alloc, "sam: read fault ", name),
@@ -206,8 +244,11 @@ pub fn fault_text(alloc: Global, fault: &Fault) -> Result<Name, AllocError>
         Fault::Schedule { line } => number_line(alloc, "sam: schedule line ", *line, ""),
         Fault::TooManyBlocks(blocks) => number_line(alloc, "sam: ", *blocks, " blocks"),
         Fault::NoSuchChannel(channel) => number_line(alloc, "sam: no channel ", *channel, ""),
+        Fault::Graph => Name::from_slice(alloc, b"sam: graph refused\n"),
+        Fault::NotVerified { rule, at } => rule_line(alloc, *rule, *at),
         Fault::Tensor { name, kind, line } => tensor_line(alloc, name, *kind, *line),
         Fault::Stalled(blocks) => waiting_lines(alloc, "sam: stalled: block ", blocks.as_slice()),
+        Fault::ResultTooLarge => Name::from_slice(alloc, b"sam: result too large\n"),
         Fault::WriteFault => Name::from_slice(alloc, b"sam: write fault\n"),
         Fault::OutOfMemory => Name::from_slice(alloc, b"sam: out of memory\n"),
     }

@@ -3,7 +3,6 @@ use Rattle.std.specs.Prelude.{◌≡◌, Bool, true, false, cond, refl}
 use Rattle.std.proofs.Common.{sym, ap, subst}
 use Rattle.sam_model.specs.declared.program.Program.{Program}
 use Rattle.sam_model.specs.Program.{accepted}
-use Rattle.graph.specs.declared.graphs.Graph.{Graph}
 use Rattle.custard_lower.specs.DraftGraph.{graph_of}
 use Rattle.custard_lower.specs.Lowering.{program_draft}
 use Rattle.custard_lower.specs.Lowered.{Computes, low}

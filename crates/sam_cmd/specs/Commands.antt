@@ -4,7 +4,7 @@ use Rattle.sam_base.specs.declared.faults.Fault.{Fault}
 use Rattle.sam_base.specs.declared.faults.Fault.TheVariants.{Usage}
 use Rattle.sam_model.specs.declared.program.Program.{Program}
 use Rattle.sam_model.specs.declared.tensors.Entries.{Entries}
-use Rattle.sam_model.specs.Statement.{statement_text}
+use Rattle.sam_model.specs.ResultText.{listing_text}
 use Rattle.graph.specs.declared.graphs.Graph.{Graph}
 use Rattle.graph_json.specs.Spelled.{graph_text}
 use Rattle.traces.specs.Traces.{streams_of, moment_of}
@@ -14,14 +14,16 @@ use Rattle.inputs.specs.Programs.{program_part}
 use Rattle.inputs.specs.Tensors.{tensor_part}
 use Rattle.words.specs.declared.asking.Lowering.{Lowering}
 use Rattle.words.specs.declared.asking.Command.{Command}
-use Rattle.words.specs.declared.asking.Command.TheVariants.{Check, Lower, Streams, Step, Moment, Run, Size, Large}
+use Rattle.words.specs.declared.asking.Command.TheVariants.{Check, Lower, Streams, Step, Moment, Run, Size, Verify, Large}
 use Rattle.words.specs.declared.asking.Options.{Options}
 use Rattle.words.specs.Asked.{asked_of}
 use Rattle.runs.specs.declared.setup.Setup.{Setup}
 use Rattle.runs.specs.Setups.{setup_part}
+use Rattle.runs.specs.Results.{Entry, result_of}
 use Rattle.runs.specs.Runs.{run_part}
 use Rattle.runs.specs.Sizes.{size_part}
 use Rattle.thread_runs.specs.ThreadsFor.{threads_for}
+use Rattle.verdicts.specs.Verifying.{verification_part}
 use Rattle.sam_cmd.specs.Chosen.{chosen}
 use Rattle.sam_cmd.specs.declared.running.Wanted.{Wanted}
 use Rattle.sam_cmd.specs.declared.running.Wanted.TheVariants as wanted
@@ -45,9 +47,17 @@ streams_part program lowering =
     followed (each_part tensor_part p.tensors) (λ entries.
     gives (Ok (streams_of p (chosen lowering p) entries))))
 
+-- the text of a program's result
+abbrev pub printed : Program → List Entry → Part (List ℕ)
+printed p listed = gives (Ok (listing_text p.result.order listed))
+
+-- what a statement denotes over these entries, as text
+abbrev pub denoted_part : Program → List Entries → Part (List ℕ)
+denoted_part p entries = followed (gives (result_of p entries)) (printed p)
+
 -- what is wanted of a program's graph, under a setup and over entries
 abbrev pub wanted_part : Wanted → Program → Graph → Setup → List Entries → Part (List ℕ)
-wanted_part wanted.Result p g setup entries = run_part p g entries setup.capacities.each
+wanted_part wanted.Result p g setup entries = followed (run_part p g entries setup.capacities.each) (printed p)
 wanted_part wanted.Moment p g setup entries = gives (Ok (moment_of p g entries setup.capacities.each setup.schedule))
 
 abbrev pub running_part : Wanted → List ℕ → Options → Part (List ℕ)
@@ -61,14 +71,17 @@ abbrev pub threads_part : List ℕ → Lowering → Part (List ℕ)
 threads_part program lowering =
     followed (program_part program) (λ p.
     followed (gives (threads_for (chosen lowering p))) (λ g.
-    followed (each_part tensor_part p.tensors) (λ entries.
-    gives (Ok (statement_text p entries)))))
+    followed (each_part tensor_part p.tensors) (denoted_part p)))
 
 -- The least capacity of the program's graph.
 abbrev pub sizing_part : List ℕ → Lowering → Part (List ℕ)
 sizing_part program lowering =
     followed (program_part program) (λ p.
     followed (each_part tensor_part p.tensors) (size_part p (chosen lowering p)))
+
+-- Whether a graph computes the program's tensor.
+abbrev pub verify_part : List ℕ → List ℕ → Part (List ℕ)
+verify_part program graph = followed (program_part program) (verification_part graph)
 
 abbrev pub large_part : ℕ → Part (List ℕ)
 large_part number = gives (Ok (large_text number))
@@ -82,6 +95,7 @@ text_part (Step program options) = running_part wanted.Result program options
 text_part (Moment program options) = running_part wanted.Moment program options
 text_part (Run program lowering capacity) = threads_part program lowering
 text_part (Size program lowering) = sizing_part program lowering
+text_part (Verify program graph) = verify_part program graph
 text_part (Large number) = large_part number
 
 -- what the words answer

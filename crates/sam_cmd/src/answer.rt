@@ -12,6 +12,7 @@ use crate::lower::lower;
 use crate::running::{Wanted, running};
 use crate::size::size;
 use crate::streams::streams;
+use crate::verify::verify;
 use crate::workload::large;
 use sam_base::{Fault, Name};
 use sam_io::Files;
@@ -35,6 +36,7 @@ fn text<F: Files>(alloc: Global, files: &mut F, command: &Command) -> Result<Nam
         }
         Command::Run { .. } => Err(Fault::Usage),
         Command::Size { program, lowering } => size(alloc, files, program, *lowering),
+        Command::Verify { program, graph } => verify(alloc, files, program, graph),
         Command::Large { number } => large(alloc, *number),
     }
 }

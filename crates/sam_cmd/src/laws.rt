@@ -2,7 +2,7 @@
 //!
 //! A function here has no body but its contract, which speaks of the same parts as that of `sam`.
 
-ghost use Rattle.sam_cmd.specs.Laws.{StepCompletes, RunCompletes, SizeCompletes};
+ghost use Rattle.sam_cmd.specs.Laws.{StepCompletes, RunCompletes, SizeCompletes, VerifyCompletes, PlainGraphsAreVerified};
 
 /// Where the files that `step` reads are there and accepted, its options name channels that are there, and each given capacity
 /// is at least as large as its channel's stream is long, the answer that is due is the tensor that the program denotes.
@@ -20,4 +20,14 @@ pub fn run_completes()
 /// least capacity.
 pub fn size_completes()
     ensures { SizeCompletes }
+{}
+
+/// Where the files that `verify` reads are there, the program is accepted and the graph is verified, that is the answer that is due.
+pub fn verify_completes()
+    ensures { VerifyCompletes }
+{}
+
+/// The graph that an accepted program is lowered to is verified.
+pub fn plain_graphs_are_verified()
+    ensures { PlainGraphsAreVerified }
 {}

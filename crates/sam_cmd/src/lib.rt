@@ -20,12 +20,15 @@ mod running;
 mod size;
 mod streams;
 mod threads;
+mod verify;
 mod workload;
 
 use answer::answer;
 use asked::asked_command;
 use block_threads::Gate;
-pub use laws::{run_completes, size_completes, step_completes};
+pub use laws::{
+    plain_graphs_are_verified, run_completes, size_completes, step_completes, verify_completes,
+};
 use report::give;
 use sam_io::{Files, Sink};
 use std::alloc::Global;
@@ -51,10 +54,12 @@ use words::Command;
 /// - `size FILE` reads what `streams` reads, and writes the least capacity under which a run of the graph finishes, given to every
 ///   channel alike, and for each block that waits with one less a line that says on which channel. Where the largest capacity is
 ///   too small, it answers the blocks that wait under it.
+/// - `verify FILE GRAPH` reads a graph's JSON too, and writes `verified` and a newline where the graph meets the rules on graphs; then it
+///   computes the tensor of the program, whoever made it. Else it answers the first rule that the graph breaks, and where.
 /// - `large N` makes the workload of that number, runs its graph, and writes how many entries the result has, the sum of their
 ///   values and the number of events.
 ///
-/// Every command but `check` and `large` takes the flag `--fused`: the graph is the one whose terms are united at the scanners, for the same
+/// Every command but `check`, `verify` and `large` takes the flag `--fused`: the graph is the one whose terms are united at the scanners, for the same
 /// tensor.
 ///
 /// The contract says which other answers there are and when each comes. No proof says that `run` ends: with too small a capacity

@@ -17,7 +17,7 @@ use crate::chosen::chosen_graph;
 use graph::Graph;
 use inputs::{program, storages};
 use levels::Storage;
-use runs::{Setup, run_program, run_setup};
+use runs::{Setup, print_result, run_program, run_setup};
 use sam_base::{Fault, Name};
 use sam_io::Files;
 use sam_model::Program;
@@ -50,7 +50,10 @@ fn wanted_text(
         ComesAlways (wanted_part wanted p.now g.now setup.now entries) result }
 {
     match wanted {
-        Wanted::Result => run_program(alloc, p, g, storages, setup),
+        Wanted::Result => match run_program(alloc, p, g, storages, setup) {
+            Err(fault) => Err(fault),
+            Ok(result) => print_result(alloc, &p.result, &result),
+        },
         Wanted::Moment => {
             match traces::moment(alloc, g, storages, &setup.capacities, &setup.schedule) {
                 Ok(text) => Ok(text),

@@ -5,7 +5,6 @@ ghost use Rattle.sam_base.specs.declared.TheConstants.{CAPACITY_MOST};
 ghost use Rattle.sam_io.specs.Spans.{KeepsFiles, files_span};
 ghost use Rattle.sam_model.specs.declared.tensors.Entries.{Entries};
 ghost use Rattle.sam_model.specs.Program.{accepted};
-ghost use Rattle.sam_model.specs.Statement.{statement_text};
 ghost use Rattle.custard_lower.specs.Lowered.{Computes};
 ghost use Rattle.parts.specs.Parts.{gives, followed, each_part};
 ghost use Rattle.parts.specs.Answers.{Comes, ComesAlways};
@@ -13,12 +12,13 @@ ghost use Rattle.inputs.specs.Tensors.{tensor_part};
 ghost use Rattle.words.specs.Asked.{IsCapacityGiven};
 ghost use Rattle.thread_runs.specs.ThreadsFor.{threads_for};
 ghost use Rattle.sam_cmd.specs.Chosen.{chosen};
-ghost use Rattle.sam_cmd.specs.Commands.{threads_part};
+ghost use Rattle.sam_cmd.specs.Commands.{denoted_part, threads_part};
 
 use crate::chosen::chosen_graph;
 use block_threads::Gate;
 use graph::Graph;
 use inputs::{program, storages};
+use runs::print_result;
 use sam_base::{Fault, Name};
 use sam_io::Files;
 use sam_model::Program;
@@ -54,14 +54,14 @@ fn tensors_text<F: Files, G: Gate + Sync, R: Threads + Wait + Sync>(
     requires computes { Computes p.now g.now }
     requires capacity { (1 ≤ capacity) × (capacity ≤ CAPACITY_MOST) }
     ensures keeps { KeepsFiles F.Files files.old files.new }
-    ensures comes { Comes (followed (each_part tensor_part p.now.tensors) (λ entries. gives (Ok (statement_text p.now entries))))
+    ensures comes { Comes (followed (each_part tensor_part p.now.tensors) (denoted_part p.now))
         (files_span F.Files files.old files.new) result }
 {
     match storages(alloc, files, p.tensors.as_slice()) {
         Err(fault) => Err(fault),
         Ok(storages) => match run_threads(rt, alloc, p, g, storages.as_slice(), capacity, gate) {
-            Ok(text) => Ok(text),
-            Err(_) => Err(Fault::OutOfMemory),
+            Err(fault) => Err(fault),
+            Ok(result) => print_result(alloc, &p.result, &result),
         },
     }
 }
@@ -80,7 +80,7 @@ fn program_text<F: Files, G: Gate + Sync, R: Threads + Wait + Sync>(
     requires capacity { (1 ≤ capacity) × (capacity ≤ CAPACITY_MOST) }
     ensures keeps { KeepsFiles F.Files files.old files.new }
     ensures comes { Comes (followed (gives (threads_for (chosen lowering p.now))) (λ g.
-        followed (each_part tensor_part p.now.tensors) (λ entries. gives (Ok (statement_text p.now entries)))))
+        followed (each_part tensor_part p.now.tensors) (denoted_part p.now)))
         (files_span F.Files files.old files.new) result }
 {
     match threaded_graph(alloc, p, lowering) {

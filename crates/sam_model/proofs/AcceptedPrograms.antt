@@ -9,7 +9,7 @@ use Rattle.sam_model.specs.declared.tensors.Tensor.{Tensor}
 use Rattle.sam_model.specs.declared.program.Term.{Term}
 use Rattle.sam_model.specs.declared.program.Program.{Program}
 use Rattle.sam_model.specs.Lists.{below, items_at, is_in}
-use Rattle.sam_model.specs.Accepted.{distinct, distinct_names, ascending, is_dimension, is_order, is_compressed, is_well_formed, is_operand, is_result}
+use Rattle.sam_model.specs.Accepted.{distinct, distinct_names, ascending, is_dimension, is_order, is_well_formed, is_operand}
 use Rattle.sam_model.specs.Accepted.{variables_fit, access_fits, factor_fits, is_access, term_has, factor_reduces, term_fits, stands}
 use Rattle.sam_model.specs.Accepted.{is_taken, distinct_tensors, declarations_fit, statement_fits, fits_by_terms}
 use Rattle.sam_model.specs.Expressions.{expanded_tops}
@@ -93,7 +93,7 @@ term-parts tensors sizes left t h =
 -- what is known of a program that fits together by its terms
 pub record FitParts (p : Program) : Type 0 where
   pub operands : list_all is_operand p.tensors ≡ true
-  pub result : is_result p.result ≡ true
+  pub result : is_well_formed p.result ≡ true
   pub differ : distinct_tensors p.tensors ≡ true
   pub free : is_taken p.result.name p.tensors ≡ false
   pub named : length p.var_names ≡ length p.var_sizes
@@ -109,7 +109,7 @@ fit-parts : (p : Program) → fits_by_terms p ≡ true → FitParts p
 fit-parts p e =
     let both = and_parts (declarations_fit p.tensors p.result) (statement_fits p) e in
     let operands = and_parts (list_all is_operand p.tensors) _ both.0 in
-    let result = and_parts (is_result p.result) _ operands.1 in
+    let result = and_parts (is_well_formed p.result) _ operands.1 in
     let differ = and_parts (distinct_tensors p.tensors) _ result.1 in
     let named = and_parts (length p.var_names == length p.var_sizes) _ both.1 in
     let few = and_parts (nat_le (length p.var_sizes) VARIABLES_MOST) _ named.1 in
@@ -140,7 +140,7 @@ pub accepted-parts : (p : Program) → accepted p ≡ true → FitParts p
 accepted-parts p e = fit-parts p (by-terms p e)
 
 pub result-formed : (p : Program) → accepted p ≡ true → is_well_formed p.result ≡ true
-result-formed p e = (and_parts (is_well_formed p.result) (list_all is_compressed p.result.formats) (accepted-parts p e).result).0
+result-formed p e = (accepted-parts p e).result
 
 tops_parts : (p : Program) → accepted p ≡ true
     → (same_terms p.terms (expanded_tops p.var_sizes p.tops) ≡ true) × (list_all (top_fits (length p.var_sizes) p.left) p.tops ≡ true)

@@ -3,6 +3,7 @@ mod Rows
 mod Worked
 mod WorkedExpressions
 mod WorkedListing
+mod WorkedPattern
 mod WorkedScopes
 pub mod AcceptedLemmas
 pub mod AcceptedPrograms

@@ -7,7 +7,7 @@ use Rattle.sam_model.specs.declared.program.Factor.TheVariants.{Access, Literal}
 use Rattle.sam_model.specs.declared.tensors.Entries.{Entries}
 use Rattle.sam_model.specs.Tensors.{stored_as, rank_of}
 use Rattle.sam_model.specs.Denote.{den, pat, result_entries}
-use Rattle.sam_model.specs.ResultText.{result_text}
+use Rattle.sam_model.specs.ResultText.{entries_text}
 use Rattle.std.specs.Fmt.{digits}
 use Rattle.sam_model.proofs.Rows.{tensor, vector, entries, plus, minus_term, program, two_vectors, b_of_i, c_of_i}
 
@@ -24,12 +24,12 @@ product-den = refl
 product-pat : map (pat product product_files) ((0 ∷ []) ∷ (1 ∷ []) ∷ (2 ∷ []) ∷ (3 ∷ []) ∷ []) ≡ false ∷ false ∷ true ∷ false ∷ []
 product-pat = refl
 
-product-text : result_text product product_files ≡ codes "3 35\n"
+product-text : entries_text product product_files ≡ codes "3 35\n"
 unfolding digits
 product-text = refl
 
 -- nothing-in-common
-nothing-text : result_text product (entries 1 (0 ∷ []) (2 ∷ []) ∷ entries 1 (2 ∷ []) (7 ∷ []) ∷ []) ≡ []
+nothing-text : entries_text product (entries 1 (0 ∷ []) (2 ∷ []) ∷ entries 1 (2 ∷ []) (7 ∷ []) ∷ []) ≡ []
 unfolding digits
 nothing-text = refl
 
@@ -45,7 +45,7 @@ matrix_files = entries 2 (0 ∷ 0 ∷ 0 ∷ 2 ∷ 2 ∷ 1 ∷ []) (2 ∷ 4 ∷ 5
 matrix-vector-entries : result_entries matrix_vector matrix_files ≡ ((0 ∷ []), 6) ∷ ((2 ∷ []), 5) ∷ []
 matrix-vector-entries = refl
 
-matrix-vector-text : result_text matrix_vector matrix_files ≡ codes "1 6\n3 5\n"
+matrix-vector-text : entries_text matrix_vector matrix_files ≡ codes "1 6\n3 5\n"
 unfolding digits
 matrix-vector-text = refl
 
@@ -59,7 +59,7 @@ matrix_matrix =
     (plus (Access 0 (1 ∷ 0 ∷ []) ∷ Access 1 (0 ∷ 2 ∷ []) ∷ []) ∷ []) (2 ∷ 2 ∷ 2 ∷ [])
 
 matrix-matrix-text :
-    result_text matrix_matrix
+    entries_text matrix_matrix
     (entries 2 (0 ∷ 0 ∷ 0 ∷ 1 ∷ 1 ∷ 1 ∷ []) (2 ∷ 3 ∷ 4 ∷ []) ∷ entries 2 (0 ∷ 0 ∷ 1 ∷ 0 ∷ 1 ∷ 1 ∷ []) (5 ∷ 6 ∷ 7 ∷ []) ∷ [])
     ≡ codes "1 1 28\n1 2 21\n2 1 24\n2 2 28\n"
 unfolding digits
@@ -74,7 +74,7 @@ cancelled-entries = refl
 
 -- wrapping-sum: x(i) = b(i) + c(i)
 wrapping-text :
-    result_text (two_vectors (plus (b_of_i ∷ []) ∷ plus (c_of_i ∷ []) ∷ []))
+    entries_text (two_vectors (plus (b_of_i ∷ []) ∷ plus (c_of_i ∷ []) ∷ []))
     (entries 1 (0 ∷ []) ((2 ^ 63 - 1) ∷ []) ∷ entries 1 (0 ∷ []) (1 ∷ []) ∷ [])
     ≡ codes "1 -9223372036854775808\n"
 unfolding digits
@@ -95,7 +95,7 @@ trailing =
     (tensor (2 ∷ 2 ∷ []) (Compressed ∷ Compressed ∷ []) (0 ∷ 1 ∷ [])) (0 ∷ 1 ∷ [])
     (plus (Access 0 (0 ∷ 1 ∷ []) ∷ []) ∷ []) (2 ∷ 2 ∷ [])
 
-trailing-text : result_text trailing (entries 2 (1 ∷ 0 ∷ []) (4 ∷ []) ∷ []) ≡ codes "2 1 4\n2 2 0\n"
+trailing-text : entries_text trailing (entries 2 (1 ∷ 0 ∷ []) (4 ∷ []) ∷ []) ≡ codes "2 1 4\n2 2 0\n"
 unfolding digits
 trailing-text = refl
 
@@ -103,11 +103,11 @@ trailing-text = refl
 abbrev dot : Program
 dot = program (vector 4 ∷ vector 4 ∷ []) (tensor [] [] []) [] (plus (b_of_i ∷ c_of_i ∷ []) ∷ []) (4 ∷ [])
 
-dot-text : result_text dot product_files ≡ codes "35\n"
+dot-text : entries_text dot product_files ≡ codes "35\n"
 unfolding digits
 dot-text = refl
 
-dot-nothing : result_text dot (entries 1 (0 ∷ []) (2 ∷ []) ∷ entries 1 (2 ∷ []) (7 ∷ []) ∷ []) ≡ []
+dot-nothing : entries_text dot (entries 1 (0 ∷ []) (2 ∷ []) ∷ entries 1 (2 ∷ []) (7 ∷ []) ∷ []) ≡ []
 unfolding digits
 dot-nothing = refl
 
@@ -118,7 +118,7 @@ reduced =
     (plus (b_of_i ∷ []) ∷ minus_term (Access 1 (0 ∷ 1 ∷ []) ∷ Access 2 (1 ∷ []) ∷ []) ∷ []) (3 ∷ 3 ∷ [])
 
 reduced-text :
-    result_text reduced
+    entries_text reduced
     (entries 1 (1 ∷ 2 ∷ []) (1 ∷ 4 ∷ []) ∷ entries 2 (0 ∷ 0 ∷ 1 ∷ 1 ∷ []) (2 ∷ 3 ∷ []) ∷ entries 1 (1 ∷ []) (5 ∷ []) ∷ [])
     ≡ codes "2 -14\n3 4\n"
 unfolding digits
@@ -126,7 +126,7 @@ reduced-text = refl
 
 -- literals: x(i) = -2 * b(i) + c(i) * 3
 literals-text :
-    result_text (two_vectors (minus_term (Literal 2 ∷ b_of_i ∷ []) ∷ plus (c_of_i ∷ Literal 3 ∷ []) ∷ []))
+    entries_text (two_vectors (minus_term (Literal 2 ∷ b_of_i ∷ []) ∷ plus (c_of_i ∷ Literal 3 ∷ []) ∷ []))
     (entries 1 (0 ∷ []) (4 ∷ []) ∷ entries 1 (1 ∷ []) (5 ∷ []) ∷ [])
     ≡ codes "1 -8\n2 15\n"
 unfolding digits

@@ -3,8 +3,6 @@ use Rattle.std.specs.Prelude.{ℕ, zero, suc, Bool, true, false, not, ◌&&◌, 
 use Rattle.std.specs.List.{list_all, list_any}
 use Rattle.std.specs.Str.{bytes_eq}
 use Rattle.sam_base.specs.declared.TheConstants.{DIMENSION_MOST, FACTORS_MOST, TERMS_MOST, VARIABLES_MOST}
-use Rattle.sam_model.specs.declared.tensors.Format.{Format}
-use Rattle.sam_model.specs.declared.tensors.Format.TheVariants.{Dense, Compressed}
 use Rattle.sam_model.specs.declared.tensors.Tensor.{Tensor}
 use Rattle.sam_model.specs.declared.program.Factor.{Factor}
 use Rattle.sam_model.specs.declared.program.Factor.TheVariants.{Access, Literal}
@@ -41,10 +39,6 @@ is_dimension d = nat_le 1 d && nat_le d DIMENSION_MOST
 abbrev pub is_order : ℕ → List ℕ → Bool
 is_order n order = length order == n && (list_all (λ m. nat_lt m n) order && distinct order)
 
-abbrev pub is_compressed : Format → Bool
-is_compressed Dense = false
-is_compressed Compressed = true
-
 -- at most eight dimensions in range, as many formats, and a storage order
 abbrev pub is_well_formed : Tensor → Bool
 is_well_formed t =
@@ -53,9 +47,6 @@ is_well_formed t =
 
 abbrev pub is_operand : Tensor → Bool
 is_operand t = nat_le 1 (length t.dims) && is_well_formed t
-
-abbrev pub is_result : Tensor → Bool
-is_result t = is_well_formed t && list_all is_compressed t.formats
 
 -- as many variables as dimensions, each of them in range and of the size of its dimension
 abbrev pub variables_fit : List ℕ → List ℕ → List ℕ → Bool
@@ -127,7 +118,7 @@ distinct_tensors (t ∷ ts) = not (is_taken t.name ts) && distinct_tensors ts
 -- the tensors are well formed, and all names of tensors and of the result differ
 abbrev pub declarations_fit : List Tensor → Tensor → Bool
 declarations_fit tensors result =
-    list_all is_operand tensors && (is_result result && (distinct_tensors tensors && not (is_taken result.name tensors)))
+    list_all is_operand tensors && (is_well_formed result && (distinct_tensors tensors && not (is_taken result.name tensors)))
 
 -- the tensors, the left side and the terms fit together
 abbrev pub fits_by_terms : Program → Bool

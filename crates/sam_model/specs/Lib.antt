@@ -10,4 +10,6 @@ pub mod TreeCode
 pub mod Expressions
 pub mod Scopes
 pub mod Program
+pub mod Pattern
 pub mod Statement
+pub mod Chains

@@ -24,6 +24,6 @@ by_modes order x = map (coordinate order x) (below (length order))
 abbrev pub listing_text : List ℕ → List (List ℕ × ℕ) → List ℕ
 listing_text order entries = flat_map (λ entry. entry_text (by_modes order entry.0) entry.1) entries
 
--- what is printed of a program's result
-abbrev pub result_text : Program → List Entries → List ℕ
-result_text p es = listing_text p.result.order (result_entries p es)
+-- the text of what is found by a program's terms
+abbrev pub entries_text : Program → List Entries → List ℕ
+entries_text p es = listing_text p.result.order (result_entries p es)

@@ -48,6 +48,10 @@ value_at a c = total (λ entry. cond (same_list entry.0 c) entry.1 0) a.entries 
 abbrev pub stored_prefixes : Stored → ℕ → List (List ℕ)
 stored_prefixes a k = filter (is_stored a) (tuples (take k a.sizes))
 
+-- all of its coordinates that are stored, ascending, with their values
+abbrev pub stored_entries : Stored → List (List ℕ × ℕ)
+stored_entries a = map (λ x. (x, value_at a x)) (stored_prefixes a (length a.sizes))
+
 -- the number of smaller stored prefixes of the same length
 abbrev pub rank_of : Stored → List ℕ → ℕ
 rank_of a p = length (filter (λ q. smaller q p) (stored_prefixes a (length p)))

@@ -5,7 +5,7 @@ ghost use Rattle.std.specs.List.{list_all, list_any};
 ghost use Rattle.sam_model.specs.Lists.{below, is_in, items_at};
 ghost use Rattle.sam_model.specs.Denote.{has_var};
 ghost use Rattle.sam_model.specs.Accepted.{distinct, is_named, distinct_names, is_taken, distinct_tensors, ascending_from, ascending};
-ghost use Rattle.sam_model.specs.Accepted.{is_dimension, is_order, is_compressed, is_well_formed, is_operand, is_result, declarations_fit};
+ghost use Rattle.sam_model.specs.Accepted.{is_dimension, is_order, is_well_formed, is_operand, declarations_fit};
 ghost use Rattle.sam_model.specs.Accepted.{variables_fit, access_fits, tensor_passes, factor_fits, is_access, term_has, terms_have, stands};
 ghost use Rattle.sam_model.specs.Accepted.{reduces, factor_reduces, term_fits, statement_fits, fits_by_terms};
 
@@ -96,21 +96,6 @@ pub fn is_order(count: usize, order: &[u64]) -> bool
     order.len() == count && are_below(order, count as u64) && distinct(order)
 }
 
-pub fn is_compressed(format: &Format) -> bool
-    ensures { result ≡ is_compressed format.now }
-{
-    match format {
-        Format::Dense => false,
-        Format::Compressed => true,
-    }
-}
-
-pub fn are_compressed(formats: &[Format]) -> bool
-    ensures { result ≡ list_all is_compressed formats.now }
-{
-    formats.iter().all(|format| is_compressed(format))
-}
-
 pub fn are_dimensions(dims: &[u64]) -> bool
     ensures { result ≡ list_all is_dimension dims.now }
 {
@@ -131,12 +116,6 @@ fn is_operand(tensor: &Tensor) -> bool
     ensures { result ≡ is_operand tensor.now }
 {
     1 <= tensor.dims.len() && is_well_formed(tensor)
-}
-
-fn is_result(tensor: &Tensor) -> bool
-    ensures { result ≡ is_result tensor.now }
-{
-    is_well_formed(tensor) && are_compressed(tensor.formats.as_slice())
 }
 
 /// Whether there are as many variables as dimensions, each in range and of the size of its dimension.
@@ -359,7 +338,7 @@ fn declarations_fit(p: &Program) -> bool
 {
     let tensors = p.tensors.as_slice();
     are_operands(tensors)
-        && is_result(&p.result)
+        && is_well_formed(&p.result)
         && distinct_tensors(tensors)
         && !is_taken(p.result.name.as_bytes(), tensors)
 }

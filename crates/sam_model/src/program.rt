@@ -31,3 +31,11 @@ pub struct Program {
     pub var_names: Items<Name>,
     pub var_sizes: Nums,
 }
+
+/// A program file of several statements: a program for each, in order. The tensors of each are the declared ones and the results
+/// of those before it that have dimensions. `lines` are the lines at which the statements begin, from 1.
+#[derive(Debug, Drop)]
+pub struct Chain {
+    pub steps: Items<Program>,
+    pub lines: Nums,
+}

@@ -1,3 +1,11 @@
+pub mod ClosedLemmas
+pub mod RowLemmas
+pub mod FrontLemmas
+pub mod SpreadLemmas
+pub mod MergeLemmas
+pub mod ClosingLemmas
+pub mod CoordinateLemmas
+pub mod FoundEntries
 pub mod ValueLemmas
 pub mod FieldLemmas
 pub mod EntryLemmas
@@ -10,3 +18,5 @@ pub mod ListingLemmas
 mod Rising
 mod Worked
 mod WorkedResults
+mod WorkedCoordinates
+mod WorkedClosing

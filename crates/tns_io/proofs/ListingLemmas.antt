@@ -1,19 +1,12 @@
 -- What is left of a listing.
-use Rattle.std.proofs.Common.{◌≡◌, ℕ, ◌+◌, ◌<◌, Bool, true, List, ◌∷◌, ◌++◌, length, get_or, drop, refl, append_assoc}
+use Rattle.std.proofs.Common.{◌≡◌, ℕ, ◌+◌, ◌<◌, Bool, true, List, ◌∷◌, ◌++◌, length, get_or, refl, append_assoc}
 use Rattle.std.proofs.lemmas.Bool.{and_parts}
 use Rattle.std.proofs.lemmas.List.{drop_more}
-use Rattle.std.specs.List.{enumerate_from, list_all}
+use Rattle.std.specs.List.{list_all}
 use Rattle.sam_model.specs.ResultText.{by_modes, entry_text, listing_text}
-use mathlib.Core.List.{map}
 use Rattle.sam_model.specs.declared.tensors.Written.{Written}
 use Rattle.sam_model.specs.Listing.{path_of}
-
-abbrev pub path_entry : Written → ℕ × ℕ → List ℕ × ℕ
-path_entry w numbered = (path_of w.segs w.crds numbered.0, numbered.1)
-
--- the listing from value n on
-abbrev pub listing_from : Written → ℕ → List (List ℕ × ℕ)
-listing_from w n = map (path_entry w) (enumerate_from n (drop n w.vals))
+use Rattle.tns_io.specs.Walks.{listing_from}
 
 -- the next value
 pub listing-next : (w : Written) (n : ℕ) → n < length w.vals → listing_from w n ≡ (path_of w.segs w.crds n, get_or w.vals n 0) ∷ listing_from w (n + 1)

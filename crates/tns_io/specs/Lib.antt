@@ -3,3 +3,7 @@ pub mod Fields
 pub mod Entries
 pub mod Answers
 pub mod Walks
+pub mod Fronts
+pub mod Rows
+pub mod Closing
+pub mod Coordinates

@@ -1,8 +1,9 @@
-//! Why a tensor file is not read.
+//! Why a tensor file is not read, and why a result is not closed.
 
 ghost use Rattle.std.specs.Prelude.{◌≡◌};
 ghost use Rattle.tns_io.specs.declared.faults.LineFault.TheVariants as line;
 ghost use Rattle.tns_io.specs.declared.faults.TnsFault.TheVariants as tns;
+ghost use Rattle.tns_io.specs.declared.faults.CloseFault.TheVariants as close;
 ghost use Rattle.tns_io.specs.Answers.{at_line};
 
 use sam_base::TnsKind;
@@ -67,5 +68,23 @@ impl<T: Drop> From<AllocFailed<T>> for LineFault {
 
     fn from(_e: AllocFailed<T>) -> LineFault {
         LineFault::OutOfMemory
+    }
+}
+
+/// Why a result is not closed over its dense levels.
+#[derive(Debug, Drop, Error)]
+pub enum CloseFault {
+    /// It would list more coordinates than a result may have.
+    #[error("the result lists too many coordinates")]
+    TooLarge,
+    #[error("there is no memory for the coordinates")]
+    OutOfMemory,
+}
+
+impl From<AllocError> for CloseFault {
+    ghost from_gives = { λ _ fault. fault ≡ close.OutOfMemory };
+
+    fn from(_e: AllocError) -> CloseFault {
+        CloseFault::OutOfMemory
     }
 }

@@ -1,6 +1,7 @@
 //! Tensor files in, results out: reads the entries of a `.tns` file, and writes the text of a result.
 #![tactic(auto)]
 
+mod closing;
 mod entries;
 mod faults;
 mod fields;
@@ -9,6 +10,8 @@ mod plain;
 mod results;
 mod values;
 
+pub use closing::close_result;
 pub use entries::read_tns;
-pub use faults::TnsFault;
-pub use results::{append_number, append_signed, result_text};
+pub use faults::{CloseFault, TnsFault};
+pub use paths::Walk;
+pub use results::{append_number, append_signed, coordinate_of, result_text};

@@ -1,10 +1,11 @@
 //! The paths of a written result's values, one after another.
 
-ghost use Rattle.std.specs.Prelude.{◌≡◌, ◌≤◌, ◌<◌, ◌+◌, ℕ, length, drop, slice_index};
+ghost use Rattle.std.specs.Prelude.{◌≡◌, ◌≤◌, ◌<◌, ◌+◌, ℕ, List, length, drop, slice_index, IfOk};
 ghost use Rattle.sam_model.specs.Listing.{place_above, outer_place, path_of};
 ghost use Rattle.tns_io.specs.Walks.{IsReached, NotPast};
 
 use sam_model::Written;
+use std::alloc::{AllocError, Global};
 
 /// The fiber that a place is in, from one on that it isn't before.
 fn fiber_of(ends: &[u64], from: usize, place: usize) -> usize
@@ -28,6 +29,18 @@ pub struct Walk {
 }
 
 impl Walk {
+    /// Before the first value of a result of so many levels.
+    pub fn start(alloc: Global, levels: usize) -> Result<Walk, AllocError>
+        ensures path { IfOk result (λ walk. length walk.path.items ≡ levels) }
+        ensures fibers { IfOk result (λ walk. length walk.fibers.items ≡ levels) }
+        ensures before { IfOk result (λ walk. (segs : List (List ℕ)) → NotPast walk.fibers.items segs 0) }
+    {
+        Ok(Walk {
+            fibers: vec![in alloc; 0; levels]?,
+            path: vec![in alloc; 0; levels]?,
+        })
+    }
+
     /// Goes on to the value of this number.
     pub fn reach(&mut self, w: &Written, number: usize)
         requires segs { length w.now.segs ≡ length self.old.path.items }

@@ -33,7 +33,7 @@ pub fn append_signed(text: &mut Name, value: u64) -> Result<(), AllocError>
 }
 
 /// The coordinate of a mode on a path in storage order.
-fn coordinate_of(order: &[u64], path: &[u64], mode: u64) -> u64
+pub fn coordinate_of(order: &[u64], path: &[u64], mode: u64) -> u64
     requires { length path.now ≡ length order.now }
     ensures { result ≡ coordinate order.now path.now mode }
 {
@@ -70,10 +70,7 @@ pub fn result_text(alloc: Global, declared: &Tensor, w: &Written) -> Result<Name
     ensures { IfOk result (λ text. text ≡ listing_text declared.now.order (listing w.now)) }
 {
     let levels = declared.order.len();
-    let mut walk = Walk {
-        fibers: vec![in alloc; 0; levels]?,
-        path: vec![in alloc; 0; levels]?,
-    };
+    let mut walk = Walk::start(alloc, levels)?;
     let mut text = Name::new(alloc);
     for (number, value) in w.vals.as_slice().iter().enumerate() {
         walk.reach(w, number);

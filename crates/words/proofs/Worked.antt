@@ -6,7 +6,7 @@ use Rattle.words.specs.Asked.{asked_of}
 use Rattle.words.specs.declared.asking.Lowering.TheVariants.{Plain, Fused}
 use Rattle.words.specs.declared.asking.Options.{Options}
 use Rattle.words.specs.declared.asking.Command.{Command}
-use Rattle.words.specs.declared.asking.Command.TheVariants.{Check, Lower, Streams, Step, Moment, Run, Size, Large}
+use Rattle.words.specs.declared.asking.Command.TheVariants.{Check, Lower, Streams, Step, Moment, Run, Size, Verify, Large}
 
 abbrev step_p : List (List ℕ) → List (List ℕ)
 step_p more = codes "step" ∷ codes "p.sam" ∷ more
@@ -53,9 +53,30 @@ no_subject : asked_of (codes "step" ∷ []) ≡ None
 unfolding clap_on_literals
 no_subject = refl
 
-two_subjects : asked_of (step_p (codes "q.sam" ∷ [])) ≡ None
+-- a graph is given for `verify`, and for no other command
+verifies : asked_of (codes "verify" ∷ codes "p.sam" ∷ codes "g.json" ∷ []) ≡ Some (Verify (codes "p.sam") (codes "g.json"))
 unfolding clap_on_literals
-two_subjects = refl
+verifies = refl
+
+verify_without_a_graph : asked_of (codes "verify" ∷ codes "p.sam" ∷ []) ≡ None
+unfolding clap_on_literals
+verify_without_a_graph = refl
+
+step_with_a_graph : asked_of (step_p (codes "g.json" ∷ [])) ≡ None
+unfolding clap_on_literals
+step_with_a_graph = refl
+
+verify_has_no_flag : asked_of (codes "verify" ∷ codes "p.sam" ∷ codes "g.json" ∷ codes "--fused" ∷ []) ≡ None
+unfolding clap_on_literals
+verify_has_no_flag = refl
+
+verify_has_no_option : asked_of (codes "--capacity=1" ∷ codes "verify" ∷ codes "p.sam" ∷ codes "g.json" ∷ []) ≡ None
+unfolding clap_on_literals
+verify_has_no_option = refl
+
+two_graphs : asked_of (codes "verify" ∷ codes "p.sam" ∷ codes "g.json" ∷ codes "h.json" ∷ []) ≡ None
+unfolding clap_on_literals
+two_graphs = refl
 
 unknown_command : asked_of (codes "walk" ∷ codes "p.sam" ∷ []) ≡ None
 unfolding clap_on_literals

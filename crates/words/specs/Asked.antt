@@ -10,7 +10,7 @@ use Rattle.words.specs.declared.asking.Lowering.{Lowering}
 use Rattle.words.specs.declared.asking.Lowering.TheVariants.{Plain, Fused}
 use Rattle.words.specs.declared.asking.Options.{Options}
 use Rattle.words.specs.declared.asking.Command.{Command}
-use Rattle.words.specs.declared.asking.Command.TheVariants.{Check, Lower, Streams, Step, Moment, Run, Size, Large}
+use Rattle.words.specs.declared.asking.Command.TheVariants.{Check, Lower, Streams, Step, Moment, Run, Size, Verify, Large}
 use Rattle.words.specs.declared.asking.Refusal.{Refusal}
 use Rattle.words.specs.declared.asking.Refusal.TheVariants.{Usage, OutOfMemory}
 
@@ -94,9 +94,14 @@ capacity_alone g = if is_some g.of || is_some g.schedule then None else all_capa
 
 -- ---- commands
 
--- the command that is given, or none where a rule refuses it
-abbrev pub command_of : Given → Option Command
-command_of g =
+-- what is said of a text, or this where there is none
+abbrev pub if_some : {A B : Type 0} → Option A → B → (A → B) → B
+if_some None none some = none
+if_some (Some a) none some = some a
+
+-- the command that is given without a graph, or none where a rule refuses it
+abbrev pub command_alone : Given → Option Command
+command_alone g =
     if bytes_eq g.command (codes "check") then without_options g (Some (Check g.subject))
     else if bytes_eq g.command (codes "lower") then without_values g (Some (Lower g.subject (lowering_of g)))
     else if bytes_eq g.command (codes "streams") then without_values g (Some (Streams g.subject (lowering_of g)))
@@ -106,6 +111,14 @@ command_of g =
     else if bytes_eq g.command (codes "size") then without_values g (Some (Size g.subject (lowering_of g)))
     else if bytes_eq g.command (codes "large") then without_options g (option_map Large (bounded_number 1 LARGE_MOST g.subject))
     else None
+
+-- the command that is given with a graph
+abbrev pub command_beside : Given → List ℕ → Option Command
+command_beside g graph = if bytes_eq g.command (codes "verify") then without_options g (Some (Verify g.subject graph)) else None
+
+-- the command that is given, or none where a rule refuses it: `verify` takes a graph, and no other does
+abbrev pub command_of : Given → Option Command
+command_of g = if_some g.graph (command_alone g) (command_beside g)
 
 -- what the words ask for, or none where they are refused
 abbrev pub asked_of : List (List ℕ) → Option Command

@@ -18,13 +18,14 @@ flag_rule name = record (new_rule name) { long = Some name; action = Some SetTru
 abbrev pub place_rule : Text → Rule
 place_rule name = record (new_rule name) { required = true }
 
--- the command: its places, its options and its flag; the words don't hold the program's own name
+-- the command: its places, of which the graph may be left out, its options and its flag; the words don't hold the program's own name
 abbrev pub command_line : App
 command_line =
-    with_rule (with_rule (with_rule (with_rule (with_rule (with_rule
+    with_rule (with_rule (with_rule (with_rule (with_rule (with_rule (with_rule
     (on_top (λ s. record s { no_binary_name = true }) (new_app (codes "sam")))
     (place_rule (codes "COMMAND")))
     (place_rule (codes "SUBJECT")))
+    (new_rule (codes "GRAPH")))
     (option_rule (codes "capacity")))
     (option_rule (codes "of")))
     (option_rule (codes "schedule")))
@@ -34,6 +35,7 @@ command_line =
 pub record Given : Type 0 where
   pub command : Text
   pub subject : Text
+  pub graph : Option Text
   pub capacity : Option Text
   pub of : Option Text
   pub schedule : Option Text
@@ -48,6 +50,7 @@ abbrev pub given_in : List Row → Given
 given_in rows = record {
   command = unwrap_or (first_of (codes "COMMAND") rows) [];
   subject = unwrap_or (first_of (codes "SUBJECT") rows) [];
+  graph = first_of (codes "GRAPH") rows;
   capacity = first_of (codes "capacity") rows;
   of = first_of (codes "of") rows;
   schedule = first_of (codes "schedule") rows;

@@ -11,6 +11,7 @@ abbrev pub given_by : Words → Given
 given_by w = record {
   command = w.command.now;
   subject = w.subject.now;
+  graph = text_in w.graph;
   capacity = text_in w.capacity;
   of = text_in w.of;
   schedule = text_in w.schedule;

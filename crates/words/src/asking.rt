@@ -3,7 +3,7 @@
 ghost use Rattle.std.specs.Prelude.{◌≡◌, ◌≤◌, [], map, string_bytes, option_map, Some, None, IfOk, IfSome, All};
 ghost use Rattle.clap.specs.Words.{rows_of, found_of};
 ghost use Rattle.words.specs.Line.{given_in, is_true_text};
-ghost use Rattle.words.specs.Asked.{Answers, asked_of, command_of, options_of, has_values, without_values, without_options, given_or, lowering_of};
+ghost use Rattle.words.specs.Asked.{Answers, asked_of, command_alone, command_beside, command_of, options_of, has_values, without_values, without_options, given_or, lowering_of};
 ghost use Rattle.words.specs.Asked.{bounded_number, capacity_of, capacity_alone, pairs_of};
 ghost use Rattle.words.specs.Asked.{IsCapacityGiven, HasCapacities, IsInBounds};
 ghost use Rattle.words.specs.Shown.{given_by, text_in};
@@ -69,6 +69,11 @@ pub enum Command {
         program: Name,
         lowering: Lowering,
     },
+    /// Whether a graph computes what the program denotes; `graph` is the name of its file.
+    Verify {
+        program: Name,
+        graph: Name,
+    },
     /// The generated workload of this number, from 1 to `LARGE_MOST`.
     Large {
         number: u32,
@@ -92,6 +97,7 @@ pub struct Options {
 pub struct Words<'a> {
     command: &'a str,
     subject: &'a str,
+    graph: Option<&'a str>,
     capacity: Option<&'a str>,
     of: Option<&'a str>,
     schedule: Option<&'a str>,
@@ -114,6 +120,7 @@ fn words_in<'a>(matches: &ArgMatches<'a>) -> Words<'a>
     Words {
         command: text(matches, "COMMAND").unwrap_or(""),
         subject: text(matches, "SUBJECT").unwrap_or(""),
+        graph: text(matches, "GRAPH"),
         capacity: text(matches, "capacity"),
         of: text(matches, "of"),
         schedule: text(matches, "schedule"),
@@ -250,8 +257,9 @@ fn number_alone(words: Words) -> Result<u32, Refusal>
     }
 }
 
-fn read_command(alloc: Global, words: Words) -> Result<Command, Refusal>
-    ensures read { Answers (command_of (given_by words.entry)) result }
+/// The command that is given without a graph.
+fn read_alone(alloc: Global, words: Words) -> Result<Command, Refusal>
+    ensures read { Answers (command_alone (given_by words.entry)) result }
     ensures bounded { IfOk result IsInBounds }
 {
     match words.command {
@@ -290,10 +298,34 @@ fn read_command(alloc: Global, words: Words) -> Result<Command, Refusal>
     }
 }
 
+/// The command that is given with a graph.
+fn read_beside(alloc: Global, words: Words, graph: &str) -> Result<Command, Refusal>
+    ensures read { Answers (command_beside (given_by words.entry) graph.now) result }
+    ensures bounded { IfOk result IsInBounds }
+{
+    if words.command != "verify" {
+        return Err(Refusal::Usage);
+    }
+    Ok(Command::Verify {
+        program: bare_program(alloc, words)?,
+        graph: name(alloc, graph)?,
+    })
+}
+
+fn read_command(alloc: Global, words: Words) -> Result<Command, Refusal>
+    ensures read { Answers (command_of (given_by words.entry)) result }
+    ensures bounded { IfOk result IsInBounds }
+{
+    match words.graph {
+        None => read_alone(alloc, words),
+        Some(graph) => read_beside(alloc, words, graph),
+    }
+}
+
 /// What the words ask for, where they are not refused.
 ///
 /// `Usage` is answered exactly where `clap` reads no command with its subject, or a rule refuses what it reads: an unknown command,
-/// an option or a flag that doesn't belong to the command, an option whose value is out of form or bounds, a channel that is given
+/// a graph, an option or a flag that doesn't belong to the command, `verify` without a graph, an option whose value is out of form or bounds, a channel that is given
 /// two capacities, or a number of `large` out of bounds.
 pub fn read_words(alloc: Global, words: &[String]) -> Result<Command, Refusal>
     ensures read { Answers (asked_of (map string_bytes words.now)) result }

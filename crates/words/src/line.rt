@@ -1,7 +1,7 @@
 //! The command line, as `clap` reads it.
 
 ghost use Rattle.std.specs.Prelude.{◌≡◌, IfOk, map, string_bytes, option_map, false};
-ghost use Rattle.clap.specs.Words.{app_of, rule_of, kind_of, found_of, rows_of, first_of};
+ghost use Rattle.clap.specs.Words.{app_of, rule_of, new_rule, kind_of, found_of, rows_of, first_of};
 ghost use Rattle.words.specs.Line.{command_line, place_rule, option_rule, flag_rule};
 ghost use Rattle.words.specs.Reads.{Reads};
 
@@ -16,6 +16,14 @@ fn place<'a>(alloc: Global, name: &'a str) -> Arg<'a>
     ensures local { result.global ≡ false }
 {
     Arg::new(alloc, name).required(true)
+}
+
+/// A word that is no option, and may be there.
+fn place_if<'a>(alloc: Global, name: &'a str) -> Arg<'a>
+    ensures rule { rule_of result ≡ new_rule name.entry.now }
+    ensures local { result.global ≡ false }
+{
+    Arg::new(alloc, name)
 }
 
 /// An option with one value.
@@ -34,7 +42,7 @@ fn flag<'a>(alloc: Global, name: &'a str) -> Arg<'a>
     Arg::new(alloc, name).long(name).action(ArgAction::SetTrue)
 }
 
-/// The command line: two places, three options with a value and a flag.
+/// The command line: two places, one that may be left out, three options with a value and a flag.
 fn line<'a>(alloc: Global) -> Result<Command<'a>, AllocError>
     ensures { IfOk result (λ command. app_of command ≡ command_line) }
 {
@@ -42,6 +50,7 @@ fn line<'a>(alloc: Global) -> Result<Command<'a>, AllocError>
         .no_binary_name(true)
         .arg(place(alloc, "COMMAND"))?
         .arg(place(alloc, "SUBJECT"))?
+        .arg(place_if(alloc, "GRAPH"))?
         .arg(option(alloc, "capacity"))?
         .arg(option(alloc, "of"))?
         .arg(option(alloc, "schedule"))?

@@ -2,6 +2,7 @@ use Rattle.std.proofs.Common.{◌∙◌, List, ap, subst, sym}
 use Rattle.std.proofs.lemmas.Result.{IfOk-weaker}
 use Rattle.sam_model.specs.declared.program.Program.{Program}
 use Rattle.sam_model.specs.Children.{Ranked}
+use Rattle.sam_model.specs.Pattern.{ends_dense}
 use Rattle.inputs.specs.Tensors.{AreStored}
 use Rattle.gen_data.specs.Workload.{workload_entries}
 use Rattle.machines.specs.Runnable.{Runnable}
@@ -26,7 +27,7 @@ returns c =
     let s = c.in_ok-summary.summary in
     let stored = subst (λ (l : List Ranked). AreStored p.tensors es l) (sym c.as_slice.ensures) c.in_ok-program.ensures.stored in
     let told =
-    summary-told p c.in_ok-program.ensures.accepted g c.in_ok-graph.ensures es c.as_slice.result.now stored s.entries s.values s.moves
+    summary-told p c.in_ok-program.ensures.accepted (ap (λ (q : Program). ends_dense q.result) c.in_ok-program.ensures.program) g c.in_ok-graph.ensures es c.as_slice.result.now stored s.entries s.values s.moves
     c.in_ok-summary.ensures.entries c.in_ok-summary.ensures.values c.in_ok-summary.ensures.moves in
     IfOk-weaker c.text.result _ _
     (λ text is. is ∙ told ∙ ap (λ (q : Program). summary_of q es) c.in_ok-program.ensures.program)

@@ -19,3 +19,8 @@ pub returns-in-Large : goal.returns-in-Large
 returns-in-Large g c =
     let files = files_span g.F.Files c.args.files.now c.args.files.now in
     subst (λ (command : Command). Comes (serial_text_part command) files c.large.result) (sym c.in-Large.is) (c.large.ensures files)
+
+pub returns-in-Verify : goal.returns-in-Verify
+returns-in-Verify g c =
+    let files = files_span g.F.Files c.args.files.now c.verify.new.files in
+    subst (λ (command : Command). Comes (serial_text_part command) files c.verify.result) (sym c.in-Verify.is) c.verify.ensures.comes

@@ -26,9 +26,11 @@ loop-number-preserved c =
     let passes = listing-passes _ c.args.w.now c.loop-number.number less c.loop-number.invariant.below in
     let line = rw (c.as_slice.ensures, c.as_slice-in-loop-number.ensures.value) at c.in_ok-append_line.ensures in
     record {
-      levels = c.reach.ensures.levels ∙ c.loop-number.invariant.levels;
-      fibers = c.reach.ensures.fibers ∙ c.loop-number.invariant.fibers;
-      before = not-past-next _ _ c.loop-number.number (c.loop-number.number + 1) (omega arith) c.reach.ensures.before;
+      stands = record {
+        path = c.reach.ensures.levels ∙ c.loop-number.invariant.stands.path;
+        fibers = c.reach.ensures.fibers ∙ c.loop-number.invariant.stands.fibers;
+        before = not-past-next _ _ c.loop-number.number (c.loop-number.number + 1) (omega arith) c.reach.ensures.before;
+      };
       below = passes.others;
       same = listing-on c.args.declared.now.order c.args.w.now c.loop-number.number _ _ _ _ less c.reach.ensures.path items line ∙ c.loop-number.invariant.same;
     }

@@ -1,0 +1,6 @@
+mod Reaching
+mod Listing
+mod Searching
+mod Topping
+mod Components
+mod Worked

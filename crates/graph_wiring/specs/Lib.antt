@@ -1,0 +1,4 @@
+pub mod Leading
+pub mod Faults
+pub mod Searching
+pub mod Topping
