@@ -146,26 +146,26 @@ accesses-keep tensors (a ∷ accesses) vars n h =
     let more = access_variables vars a (tensor_named a.name tensors) in
     extends-twice vars more (bound_variables tensors more accesses) (access-keeps vars a (tensor_named a.name tensors)) (accesses-keep tensors accesses more) n h
 
-module _ (line : ℕ) (tensors : List Tensor) (result : Tensor) (few : length tensors < 2 ^ 32) (free : is_taken result.name tensors ≡ false) (all : List Variable) (loops : List (List ℕ)) where
+module _ (line : ℕ) (tensors : List Tensor) (scalars : List (List ℕ)) (result : Tensor) (few : length tensors < 2 ^ 32) (free : is_taken result.name tensors ≡ false) (all : List Variable) (loops : List (List ℕ)) where
   right-bound : (vars : List Variable) → Extends vars all → (a : AccessText) → factor_fits tensors (sizes all loops) (numbered_access tensors loops a) ≡ true
-      → bind_right line tensors result vars a ≡ Ok (access_variables vars a (tensor_named a.name tensors))
+      → bind_right line tensors scalars result vars a ≡ Ok (access_variables vars a (tensor_named a.name tensors))
   right-bound vars ext a e =
       let n = number-passes (access_fits (sizes all loops) (places loops a.vars)) a.name tensors few e in
       let other : bytes_eq a.name result.name ≡ false = false_from_ne_true (bytes_eq a.name result.name)
       (λ h. both_ways (is_taken result.name tensors) free (subst (λ m. is_taken m tensors ≡ true) (same-name a.name result.name h) n.taken)) in
       cond-false (bytes_eq a.name result.name) _ _ other
-      ∙ ap (λ o. bind_named line vars a o) n.named
+      ∙ ap (λ o. bind_named line scalars vars a o) n.named
       ∙ access-bound all loops line vars ext a n.tensor n.passes
       ∙ ap (λ o. Ok (access_variables vars a o)) (sym n.named)
 
   accesses-bound : (accesses : List AccessText) (vars : List Variable) → Extends (bound_variables tensors vars accesses) all → list_all (λ a. factor_fits tensors (sizes all loops) (numbered_access tensors loops a)) accesses ≡ true
-      → bind_accesses line tensors result vars accesses ≡ Ok (bound_variables tensors vars accesses)
+      → bind_accesses line tensors scalars result vars accesses ≡ Ok (bound_variables tensors vars accesses)
   accesses-bound [] vars ext e = refl
   accesses-bound (a ∷ accesses) vars ext e =
       let p = and_parts _ _ e in
       let more = access_variables vars a (tensor_named a.name tensors) in
       let here = extends-twice vars (bound_variables tensors more accesses) all (accesses-keep tensors (a ∷ accesses) vars) ext in
-      ap (λ r. and_then r (λ vs. bind_accesses line tensors result vs accesses)) (right-bound vars here a p.0)
+      ap (λ r. and_then r (λ vs. bind_accesses line tensors scalars result vs accesses)) (right-bound vars here a p.0)
       ∙ accesses-bound accesses more ext p.1
 
 none-known : (all : List Variable) → Extends [] all
@@ -182,5 +182,5 @@ file-bound f few free left fits accesses =
     let bound : bind_left f.statement_line f.result f.statement.left ≡ Ok vars =
     cond-true (bytes_eq f.statement.left.name f.result.name) _ _ left
     ∙ access-bound (variables_of f) f.loops f.statement_line [] (none-known (variables_of f)) f.statement.left f.result fits in
-    ap (λ r. and_then r (λ vs. bind_accesses f.statement_line f.tensors f.result vs right)) bound
-    ∙ accesses-bound f.statement_line f.tensors f.result few free (variables_of f) f.loops right vars (λ n h. (h, refl)) accesses
+    ap (λ r. and_then r (λ vs. bind_accesses f.statement_line f.tensors f.scalars f.result vs right)) bound
+    ∙ accesses-bound f.statement_line f.tensors f.scalars f.result few free (variables_of f) f.loops right vars (λ n h. (h, refl)) accesses

@@ -10,13 +10,14 @@ use Rattle.sam_text.specs.Counted.{NumberedLine}
 use Rattle.sam_text.specs.Words.{words}
 use Rattle.sam_text.specs.Names.{is_name}
 use Rattle.sam_model.specs.declared.tensors.Tensor.{Tensor}
-use Rattle.sam_model.specs.Accepted.{is_operand, is_well_formed, is_dimension, is_compressed, is_taken, distinct_tensors, declarations_fit}
+use Rattle.sam_model.specs.Accepted.{is_operand, is_well_formed, is_dimension, is_taken, distinct_tensors, declarations_fit}
 use Rattle.notation.specs.declared.statement.Statement.{Statement}
 use Rattle.program_file.specs.declared.files.File.{File}
+use Rattle.program_file.specs.declared.files.Group.{Group}
 use Rattle.program_file.specs.Refusals.{ProgramRefusal, and_then}
 use Rattle.program_file.specs.Keywords.{tensor_word, result_word, starts, others}
-use Rattle.program_file.specs.Declarations.{parts, numbers, capped, format_of, is_shape, tensor_with, scalar, tensor_of, result_of, declared, all_compressed, is_printable}
-use Rattle.program_file.specs.Files.{result_declared, declarations_in, compute_in, loops_in, end_in, file_with, parts_in}
+use Rattle.program_file.specs.Declarations.{parts, numbers, capped, format_of, is_shape, tensor_with, scalar, tensor_of, result_of, declared, is_printable}
+use Rattle.program_file.specs.Files.{result_declared, declarations_in, compute_in, loops_in, group_with, group_in, end_in, file_with, parts_in}
 use Rattle.sam_base.specs.declared.faults.ProgramKind.{ProgramKind}
 use Rattle.program_file.specs.Accesses.{unless}
 
@@ -100,9 +101,6 @@ declared-ok tensors line (Some x) t e = elim (if-ok (not (list_all is_dimension 
   ]
 ]
 
-compressed-ok : (line : ℕ) (x t : Tensor) → all_compressed line x ≡ Ok t → (x ≡ t) × (list_all is_compressed x.formats ≡ true)
-compressed-ok line x t e = elim (if-ok (list_all is_compressed x.formats) _ _ t e) [ inl h ↦ (cc, h.0) | inr h ↦ absurd (no_refusal _ _ t refl h.1) ]
-
 -- so many tensors that fit, with names that differ
 pub record Declared (tensors : List Tensor) : Type 0 where
   pub each : list_all is_operand tensors ≡ true
@@ -112,7 +110,7 @@ all-push : (ts : List Tensor) (t : Tensor) → list_all is_operand ts ≡ true �
 all-push [] t h k = and_from _ _ k refl
 all-push (x ∷ xs) t h k = let p = and_parts _ _ h in and_from _ _ p.0 (all-push xs t p.1 k)
 
-taken-push : (name : List ℕ) (ts : List Tensor) (t : Tensor) → is_taken name ts ≡ false → bytes_eq name t.name ≡ false → is_taken name (ts ++ t ∷ []) ≡ false
+pub taken-push : (name : List ℕ) (ts : List Tensor) (t : Tensor) → is_taken name ts ≡ false → bytes_eq name t.name ≡ false → is_taken name (ts ++ t ∷ []) ≡ false
 taken-push name [] t h k = or_from _ _ k refl
 taken-push name (x ∷ xs) t h k = let p = or_parts _ _ h in or_from _ _ p.0 (taken-push name xs t p.1 k)
 
@@ -126,24 +124,22 @@ apart-push (x ∷ xs) t h k =
     let q = or_parts _ _ k in
     and_from _ _ (not_from_false _ (taken-push x.name xs t (not-true _ p.0) (other-way t.name x.name q.0))) (apart-push xs t p.1 q.1)
 
-push-declared : (ts : List Tensor) (t : Tensor) → Declared ts → is_operand t ≡ true → is_taken t.name ts ≡ false → Declared (ts ++ t ∷ [])
+pub push-declared : (ts : List Tensor) (t : Tensor) → Declared ts → is_operand t ≡ true → is_taken t.name ts ≡ false → Declared (ts ++ t ∷ [])
 push-declared ts t h k new = record { each = all-push ts t h.each k; apart = apart-push ts t h.apart new }
 
 option-if : (b : Bool) (o : Option Tensor) (t : Tensor) → cond b o None ≡ Some t → o ≡ Some t
 option-if true o t e = e
 option-if false o t e = absurd cc
 
-result-ok : (tensors : List Tensor) (l : NumberedLine) (t : Tensor) → Declared tensors → result_declared tensors l ≡ Ok t → declarations_fit tensors t ≡ true
+pub result-ok : (tensors : List Tensor) (l : NumberedLine) (t : Tensor) → Declared tensors → result_declared tensors l ≡ Ok t → declarations_fit tensors t ≡ true
 result-ok tensors l t h e =
     let found = cond (starts result_word (words l.text)) (result_of (others (words l.text))) None in
-    let a = then-ok (declared tensors l.number found) (all_compressed l.number) t e in
-    let d = declared-ok tensors l.number found a.value a.was in
-    let c = compressed-ok l.number a.value t a.next in
-    let fits = result-fits (others (words l.text)) a.value (option-if (starts result_word (words l.text)) _ _ d.is) d.dims in
-    subst (λ (x : Tensor). declarations_fit tensors x ≡ true) c.0 (and_from _ _ h.each (and_from _ _ (and_from _ _ fits c.1) (and_from _ _ h.apart (not_from_false _ d.new))))
+    let d = declared-ok tensors l.number found t e in
+    let fits = result-fits (others (words l.text)) t (option-if (starts result_word (words l.text)) _ _ d.is) d.dims in
+    and_from _ _ h.each (and_from _ _ fits (and_from _ _ h.apart (not_from_false _ d.new)))
 
-pub declarations-fit : (past : ℕ) (tensors : List Tensor) (ls : List NumberedLine) (found : (List Tensor × Tensor) × List NumberedLine) → Declared tensors
-    → declarations_in past tensors ls ≡ Ok found → declarations_fit found.0.0 found.0.1 ≡ true
+pub declarations-fit : (past : ℕ) (tensors : List Tensor) (ls : List NumberedLine) (found : (List Tensor × (Tensor × ℕ)) × List NumberedLine) → Declared tensors
+    → declarations_in past tensors ls ≡ Ok found → declarations_fit found.0.0 found.0.1.0 ≡ true
 declarations-fit past tensors [] found h e = absurd (no_refusal _ _ found refl e)
 declarations-fit past tensors (l ∷ ls) found h e = elim (if-ok (starts tensor_word (words l.text)) _ _ found e) [
   | inl k ↦
@@ -151,40 +147,62 @@ declarations-fit past tensors (l ∷ ls) found h e = elim (if-ok (starts tensor_
       let d = declared-ok tensors l.number (tensor_of (others (words l.text))) a.value a.was in
       declarations-fit past (tensors ++ a.value ∷ []) ls found (push-declared tensors a.value h (tensor-fits (others (words l.text)) a.value d.is d.dims) d.new) a.next
   | inr k ↦
-      let a = then-ok (result_declared tensors l) (λ result. Ok ((tensors, result), ls)) found k.1 in
-      let same : ((tensors, a.value), ls) ≡ found = ok-same ((tensors, a.value), ls) found a.next in
-      let F : (List Tensor × Tensor) × List NumberedLine → Type 0 = λ x. declarations_fit x.0.0 x.0.1 ≡ true in
+      let a = then-ok (result_declared tensors l) (λ result. Ok ((tensors, (result, l.number)), ls)) found k.1 in
+      let same : ((tensors, (a.value, l.number)), ls) ≡ found = ok-same ((tensors, (a.value, l.number)), ls) found a.next in
+      let F : (List Tensor × (Tensor × ℕ)) × List NumberedLine → Type 0 = λ x. declarations_fit x.0.0 x.0.1.0 ≡ true in
       subst F same (result-ok tensors l a.value h a.was)
 ]
 
--- the parts of a file that is read
-pub record IsRead (past : ℕ) (ls : List NumberedLine) (f : File) : Type 0 where
-  pub declared : (List Tensor × Tensor) × List NumberedLine
+-- the parts of a group that is read
+pub record IsGroup (past : ℕ) (r : Tensor × ℕ) (ls : List NumberedLine) (g : Group) : Type 0 where
   pub statement : (Statement × ℕ) × List NumberedLine
   pub loops : (List (List ℕ) × ℕ) × List NumberedLine
+  pub statement_in : compute_in past ls ≡ Ok statement
+  pub is : group_with r statement.0 loops.0 ≡ g
+
+pub group-ok : (past : ℕ) (r : Tensor × ℕ) (ls : List NumberedLine) (found : Group × List NumberedLine) → group_in past r ls ≡ Ok found → IsGroup past r ls found.0
+group-ok past r ls found e =
+    let s = then-ok (compute_in past ls) (λ s. and_then (loops_in past s.1) (λ l. Ok (group_with r s.0 l.0, l.1))) found e in
+    let l = then-ok (loops_in past s.value.1) (λ l. Ok (group_with r s.value.0 l.0, l.1)) found s.next in
+    let same = ok-same (group_with r s.value.0 l.value.0, l.value.1) found l.next in
+    record {
+      statement = s.value;
+      loops = l.value;
+      statement_in = s.was;
+      is = ap (λ (x : Group × List NumberedLine). x.0) same;
+    }
+
+pub group-result : (past : ℕ) (r : Tensor × ℕ) (ls : List NumberedLine) (g : Group) → IsGroup past r ls g → g.result ≡ r.0
+group-result past r ls g k = ap (λ (x : Group). x.result) (sym k.is)
+
+-- the parts of a file that is read
+pub record IsRead (past : ℕ) (ls : List NumberedLine) (f : File) : Type 0 where
+  pub declared : (List Tensor × (Tensor × ℕ)) × List NumberedLine
+  pub group : Group × List NumberedLine
   pub declared_in : declarations_in past [] ls ≡ Ok declared
-  pub statement_in : compute_in past declared.1 ≡ Ok statement
-  pub is : file_with declared.0 statement.0 loops.0 ≡ f
+  pub grouped : group_in past declared.0.1 declared.1 ≡ Ok group
+  pub is : file_with declared.0.0 [] group.0 ≡ f
 
 pub parts-ok : (past : ℕ) (ls : List NumberedLine) (f : File) → parts_in past ls ≡ Ok f → IsRead past ls f
 parts-ok past ls f e =
-    let d = then-ok (declarations_in past [] ls) (λ d. and_then (compute_in past d.1) (λ s. and_then (loops_in past s.1) (λ l. and_then (end_in l.1) (λ _. Ok (file_with d.0 s.0 l.0))))) f e in
-    let s = then-ok (compute_in past d.value.1) (λ s. and_then (loops_in past s.1) (λ l. and_then (end_in l.1) (λ _. Ok (file_with d.value.0 s.0 l.0)))) f d.next in
-    let l = then-ok (loops_in past s.value.1) (λ l. and_then (end_in l.1) (λ _. Ok (file_with d.value.0 s.value.0 l.0))) f s.next in
-    let n = then-ok (end_in l.value.1) (λ _. Ok (file_with d.value.0 s.value.0 l.value.0)) f l.next in
+    let d = then-ok (declarations_in past [] ls) (λ d. and_then (group_in past d.0.1 d.1) (λ g. and_then (end_in g.1) (λ _. Ok (file_with d.0.0 [] g.0)))) f e in
+    let g = then-ok (group_in past d.value.0.1 d.value.1) (λ g. and_then (end_in g.1) (λ _. Ok (file_with d.value.0.0 [] g.0))) f d.next in
+    let n = then-ok (end_in g.value.1) (λ _. Ok (file_with d.value.0.0 [] g.value.0)) f g.next in
     record {
       declared = d.value;
-      statement = s.value;
-      loops = l.value;
+      group = g.value;
       declared_in = d.was;
-      statement_in = s.was;
-      is = ok-same (file_with d.value.0 s.value.0 l.value.0) f n.next;
+      grouped = g.was;
+      is = ok-same (file_with d.value.0.0 [] g.value.0) f n.next;
     }
 
 pub file-fits : (past : ℕ) (ls : List NumberedLine) (f : File) → IsRead past ls f → declarations_fit f.tensors f.result ≡ true
 file-fits past ls f r =
     let F : File → Type 0 = λ g. declarations_fit g.tensors g.result ≡ true in
-    subst F r.is (declarations-fit past [] ls r.declared (record { each = refl; apart = refl }) r.declared_in)
+    let g = group-ok past r.declared.0.1 r.declared.1 r.group r.grouped in
+    let D : Tensor → Type 0 = λ t. declarations_fit r.declared.0.0 t ≡ true in
+    let same = group-result past r.declared.0.1 r.declared.1 r.group.0 g in
+    subst F r.is (subst D (sym same) (declarations-fit past [] ls r.declared (record { each = refl; apart = refl }) r.declared_in))
 
 pub unless-ok : {Y : Type 0} (line : ℕ) (o : Option ProgramKind) (x z : Y) → unless line o x ≡ Ok z → x ≡ z
 unless-ok line None x z e = cc

@@ -14,6 +14,7 @@ use Rattle.sam_model.specs.declared.tensors.Tensor.{Tensor}
 use Rattle.sam_model.specs.declared.program.Program.{Program}
 use Rattle.sam_model.specs.declared.program.Term.{Term}
 use Rattle.sam_model.specs.Trees.{TopTree}
+use Rattle.sam_model.specs.Accepted.{declarations_fit}
 use Rattle.sam_model.specs.Program.{accepted}
 use Rattle.expand.specs.Counting.{have_long}
 use Rattle.notation.specs.declared.statement.Statement.{Statement}
@@ -23,6 +24,7 @@ use Rattle.notation.specs.Tokens.{tokens_of}
 use Rattle.notation.proofs.OpenForms.{some-terms}
 use Rattle.notation.proofs.First.{ok_spells}
 use Rattle.program_file.specs.declared.files.File.{File}
+use Rattle.program_file.specs.declared.files.Group.{Group}
 use Rattle.program_file.specs.declared.faults.ProgramFault.{ProgramFault}
 use Rattle.program_file.specs.Refusals.{ProgramRefusal, program_refused, and_then, GivesProgram}
 use Rattle.program_file.specs.Keywords.{tensor_word, compute_word, starts, others}
@@ -35,7 +37,7 @@ use Rattle.program_file.specs.Checks.{expansion_fault, terms_fault}
 use Rattle.program_file.specs.Programs.{left_of, file_tops, sizes_of, terms_of, program_with, program_of, order_fault, loops_checked}
 use Rattle.program_file.specs.Programs.{terms_checked, expansion_checked, sums_fault, sums_checked, checked_with, numbered_reading}
 use Rattle.program_file.specs.Programs.{statement_checked, bound_of, checked}
-use Rattle.program_file.proofs.DeclaredLemmas.{then-ok, if-ok, ok-same, no_refusal, IsRead, parts-ok, file-fits, unless-ok}
+use Rattle.program_file.proofs.DeclaredLemmas.{then-ok, if-ok, ok-same, no_refusal, IsGroup, group-ok, IsRead, parts-ok, file-fits, unless-ok}
 use Rattle.program_file.proofs.FitLemmas.{Checked, file-binds, statement-fits, each-fits}
 
 onto-count : (b : ℕ) (ls : List (List ℕ)) (n : ℕ) → length ls ≤ n → length (onto_first b ls) ≤ suc n
@@ -46,7 +48,7 @@ lines-step : (t : Bool) (b : ℕ) (ls : List (List ℕ)) (n : ℕ) → length ls
 lines-step true b ls n h = omega (arith, h)
 lines-step false b ls n h = onto-count b ls n h
 
-lines-count : (bs : List ℕ) → length (lines bs) ≤ length bs
+pub lines-count : (bs : List ℕ) → length (lines bs) ≤ length bs
 lines-count [] = omega arith
 lines-count (b ∷ bs) = lines-step (is_newline b) b (lines bs) (length bs) (lines-count bs)
 
@@ -54,11 +56,11 @@ kept-step : (t : Bool) (l : NumberedLine) (ks : List NumberedLine) (n : ℕ) →
 kept-step true l ks n h = omega (arith, h)
 kept-step false l ks n h = omega (arith, h)
 
-kept-count : (number : ℕ) (ls : List (List ℕ)) → length (counted_lines number ls) ≤ length ls
+pub kept-count : (number : ℕ) (ls : List (List ℕ)) → length (counted_lines number ls) ≤ length ls
 kept-count number [] = omega arith
 kept-count number (l ∷ ls) = kept-step (is_skipped (words l)) (record { number = number; text = l }) (counted_lines (number + 1) ls) (length ls) (kept-count (number + 1) ls)
 
-tensors-count : (past : ℕ) (tensors : List Tensor) (ls : List NumberedLine) (found : (List Tensor × Tensor) × List NumberedLine) → declarations_in past tensors ls ≡ Ok found
+pub tensors-count : (past : ℕ) (tensors : List Tensor) (ls : List NumberedLine) (found : (List Tensor × (Tensor × ℕ)) × List NumberedLine) → declarations_in past tensors ls ≡ Ok found
     → length found.0.0 ≤ length tensors + length ls
 tensors-count past tensors [] found e = absurd (no_refusal _ _ found refl e)
 tensors-count past tensors (l ∷ ls) found e = elim (if-ok (starts tensor_word (words l.text)) _ _ found e) [
@@ -68,9 +70,9 @@ tensors-count past tensors (l ∷ ls) found e = elim (if-ok (starts tensor_word 
       let more = length-append tensors (a.value ∷ []) in
       omega (arith, h, more)
   | inr k ↦
-      let a = then-ok (result_declared tensors l) (λ result. Ok ((tensors, result), ls)) found k.1 in
-      let same = ok-same ((tensors, a.value), ls) found a.next in
-      let h : length tensors ≡ length found.0.0 = ap (λ (x : (List Tensor × Tensor) × List NumberedLine). length x.0.0) same in
+      let a = then-ok (result_declared tensors l) (λ result. Ok ((tensors, (result, l.number)), ls)) found k.1 in
+      let same = ok-same ((tensors, (a.value, l.number)), ls) found a.next in
+      let h : length tensors ≡ length found.0.0 = ap (λ (x : (List Tensor × (Tensor × ℕ)) × List NumberedLine). length x.0.0) same in
       omega (arith, h)
 ]
 
@@ -106,10 +108,16 @@ few-tensors text f short r =
     let F : File → Type 0 = λ g. length g.tensors < 2 ^ 32 in
     subst F r.is (omega arith)
 
+-- the statement of a group that is read has a top-level term
+pub group-tops : (past : ℕ) (r : Tensor × ℕ) (ls : List NumberedLine) (g : Group) → IsGroup past r ls g → 0 < length g.statement.tops
+group-tops past r ls g k =
+    let G : Group → Type 0 = λ h. 0 < length h.statement.tops in
+    subst G k.is (statement-fit past ls k.statement k.statement_in)
+
 fit-statement : (past : ℕ) (ls : List NumberedLine) (f : File) → IsRead past ls f → 0 < length f.statement.tops
 fit-statement past ls f r =
-    let F : File → Type 0 = λ g. 0 < length g.statement.tops in
-    subst F r.is (statement-fit past r.declared.1 r.statement r.statement_in)
+    let F : File → Type 0 = λ h. 0 < length h.statement.tops in
+    subst F r.is (group-tops past r.declared.0.1 r.declared.1 r.group.0 (group-ok past r.declared.0.1 r.declared.1 r.group r.grouped))
 
 -- ---- the checks
 
@@ -218,20 +226,25 @@ file-numbered f vars names left tops sizes bound by left-is tops-is sizes-is =
     ∙ numbered-program f vars names by
     ∙ ap (λ r. and_then r (λ vars. and_then (statement_checked f vars) (λ _. Ok (program_of f vars)))) (sym bound)
 
--- a file that passes the checks makes an accepted program
-pub checked-accepted : (text : List ℕ) (f : File) (p : Program) → length text ≤ FILE_MOST → file_reading text ≡ Ok f → checked f ≡ Ok p → accepted p ≡ true
-checked-accepted text f p short e h =
-    let r = parts-ok (1 + length (lines text)) (counted_lines 1 (lines text)) f e in
+-- a file of few tensors that passes the checks makes an accepted program, where it declares what fits
+pub fits-accepted : (f : File) (p : Program) → length f.tensors < 2 ^ 32 → 0 < length f.statement.tops → declarations_fit f.tensors f.result ≡ true → checked f ≡ Ok p
+    → accepted p ≡ true
+fits-accepted f p few fit declared h =
     let a = then-ok (bound_of f) (λ vars. and_then (statement_checked f vars) (λ _. Ok (program_of f vars))) p h in
     let b = then-ok (statement_checked f a.value) (λ _. Ok (program_of f a.value)) p a.next in
     let is : program_of f a.value ≡ p = ok-same (program_of f a.value) p b.next in
     let c = statement-ok f a.value b.value b.was in
     let binds = file-binds f a.value a.was in
-    let few = few-tensors text f short r in
-    let fit = fit-statement (1 + length (lines text)) (counted_lines 1 (lines text)) f r in
-    let declared = file-fits (1 + length (lines text)) (counted_lines 1 (lines text)) f r in
     let A : Program → Type 0 = λ q. accepted q ≡ true in
     subst A is (and_from _ _ (and_from _ _ declared (statement-fits f a.value few fit binds c)) (each-fits f a.value binds c))
+
+-- a file that passes the checks makes an accepted program
+pub checked-accepted : (text : List ℕ) (f : File) (p : Program) → length text ≤ FILE_MOST → file_reading text ≡ Ok f → checked f ≡ Ok p → accepted p ≡ true
+checked-accepted text f p short e h =
+    let past = 1 + length (lines text) in
+    let ls = counted_lines 1 (lines text) in
+    let r = parts-ok past ls f e in
+    fits-accepted f p (few-tensors text f short r) (fit-statement past ls f r) (file-fits past ls f r) h
 
 pub if-accepted : (text : List ℕ) (f : File) (res : Result Program ProgramFault) → length text ≤ FILE_MOST → file_reading text ≡ Ok f → GivesProgram res (checked f) → IfOk res (λ p. accepted p ≡ true)
 if-accepted text f (Ok p) short e h = checked-accepted text f p short e h

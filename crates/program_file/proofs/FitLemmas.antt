@@ -101,16 +101,16 @@ record BindsRight (tensors : List Tensor) (vars more : List Variable) (a : Acces
   ok : BoundAccess tensors more a
   from : (m : List ℕ) → is_known m more ≡ true → (is_known m vars ≡ true) ⊎ (is_named m a.vars ≡ true)
 
-named-binds : (line : ℕ) (tensors : List Tensor) (vars more : List Variable) (a : AccessText) (o : Option Tensor) → tensor_named a.name tensors ≡ o → bind_named line vars a o ≡ Ok more → BindsRight tensors vars more a
-named-binds line tensors vars more a None h e = absurd (no_refusal _ _ more refl e)
-named-binds line tensors vars more a (Some t) h e =
+named-binds : (line : ℕ) (scalars : List (List ℕ)) (tensors : List Tensor) (vars more : List Variable) (a : AccessText) (o : Option Tensor) → tensor_named a.name tensors ≡ o → bind_named line scalars vars a o ≡ Ok more → BindsRight tensors vars more a
+named-binds line scalars tensors vars more a None h e = absurd (no_refusal _ _ more refl e)
+named-binds line scalars tensors vars more a (Some t) h e =
     let b = access-binds line vars more a t e in
     record { extends = b.extends; ok = record { tensor = t; named = h; sizes = b.sizes; apart = b.apart }; from = b.from }
 
-right-binds : (line : ℕ) (tensors : List Tensor) (result : Tensor) (vars more : List Variable) (a : AccessText) → bind_right line tensors result vars a ≡ Ok more → BindsRight tensors vars more a
-right-binds line tensors result vars more a e = elim (if-ok (bytes_eq a.name result.name) _ _ more e) [
+right-binds : (line : ℕ) (tensors : List Tensor) (scalars : List (List ℕ)) (result : Tensor) (vars more : List Variable) (a : AccessText) → bind_right line tensors scalars result vars a ≡ Ok more → BindsRight tensors vars more a
+right-binds line tensors scalars result vars more a e = elim (if-ok (bytes_eq a.name result.name) _ _ more e) [
   | inl h ↦ absurd (no_refusal _ _ more refl h.1)
-  | inr h ↦ named-binds line tensors vars more a (tensor_named a.name tensors) refl h.1
+  | inr h ↦ named-binds line scalars tensors vars more a (tensor_named a.name tensors) refl h.1
 ]
 
 record BindsAccesses (tensors : List Tensor) (vars more : List Variable) (accesses : List AccessText) : Type 0 where
@@ -118,16 +118,16 @@ record BindsAccesses (tensors : List Tensor) (vars more : List Variable) (access
   ok : AccessesOk tensors more accesses
   from : (m : List ℕ) → is_known m more ≡ true → (is_known m vars ≡ true) ⊎ (list_any (λ a. is_named m a.vars) accesses ≡ true)
 
-accesses-bind : (line : ℕ) (tensors : List Tensor) (result : Tensor) (accesses : List AccessText) (vars more : List Variable)
-    → bind_accesses line tensors result vars accesses ≡ Ok more → BindsAccesses tensors vars more accesses
-accesses-bind line tensors result [] vars more e =
+accesses-bind : (line : ℕ) (tensors : List Tensor) (scalars : List (List ℕ)) (result : Tensor) (accesses : List AccessText) (vars more : List Variable)
+    → bind_accesses line tensors scalars result vars accesses ≡ Ok more → BindsAccesses tensors vars more accesses
+accesses-bind line tensors scalars result [] vars more e =
     let same : vars ≡ more = cc in
     let B : List Variable → Type 0 = λ vs. BindsAccesses tensors vars vs [] in
     subst B same (record { extends = λ n h. (h, refl); ok = tt; from = λ m h. inl h })
-accesses-bind line tensors result (a ∷ accesses) vars more e =
-    let s = then-ok (bind_right line tensors result vars a) (λ vs. bind_accesses line tensors result vs accesses) more e in
-    let b = right-binds line tensors result vars s.value a s.was in
-    let r = accesses-bind line tensors result accesses s.value more s.next in
+accesses-bind line tensors scalars result (a ∷ accesses) vars more e =
+    let s = then-ok (bind_right line tensors scalars result vars a) (λ vs. bind_accesses line tensors scalars result vs accesses) more e in
+    let b = right-binds line tensors scalars result vars s.value a s.was in
+    let r = accesses-bind line tensors scalars result accesses s.value more s.next in
     record {
       extends = extends-twice vars s.value more b.extends r.extends;
       ok = (access-more tensors s.value more a r.extends b.ok, r.ok);
@@ -154,9 +154,9 @@ left-binds line result a vars e = elim (if-ok (bytes_eq a.name result.name) _ _ 
 pub file-binds : (f : File) (vars : List Variable) → bound_of f ≡ Ok vars → BindsFile f vars
 file-binds f vars e =
     let right = right_accesses f.statement in
-    let s = then-ok (bind_left f.statement_line f.result f.statement.left) (λ vs. bind_accesses f.statement_line f.tensors f.result vs right) vars e in
+    let s = then-ok (bind_left f.statement_line f.result f.statement.left) (λ vs. bind_accesses f.statement_line f.tensors f.scalars f.result vs right) vars e in
     let l = left-binds f.statement_line f.result f.statement.left s.value s.was in
-    let r = accesses-bind f.statement_line f.tensors f.result right s.value vars s.next in
+    let r = accesses-bind f.statement_line f.tensors f.scalars f.result right s.value vars s.next in
     record {
       sizes = sized-more s.value vars r.extends f.statement.left.vars f.result.dims l.sizes;
       apart = l.apart;

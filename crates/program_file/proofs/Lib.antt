@@ -12,3 +12,6 @@ pub mod NameSets
 pub mod CompleteBinds
 pub mod CompleteChecks
 pub mod CompleteLemmas
+pub mod GroupLemmas
+pub mod StepLemmas
+mod WorkedChains

@@ -71,6 +71,7 @@ minus body = record { minus = true; body = body }
 abbrev file : List ℕ → List ℕ → List (List ℕ) → List TopTextTree → List (List ℕ) → File
 file dims order left tops loops = record {
   tensors = tensors;
+  scalars = [];
   result = tensor (codes "x") dims order;
   statement = record { left = access (codes "x") left; tops = tops };
   loops = loops;

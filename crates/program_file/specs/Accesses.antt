@@ -3,7 +3,7 @@ use Rattle.std.specs.Prelude.{ℕ, Bool, false, not, ◌==◌, List, [], ◌∷�
 use Rattle.std.specs.List.{list_any}
 use Rattle.std.specs.Str.{bytes_eq}
 use Rattle.sam_base.specs.declared.faults.ProgramKind.{ProgramKind}
-use Rattle.sam_base.specs.declared.faults.ProgramKind.TheVariants.{UnknownName, ResultOnRight, ArityMismatch, RepeatedVariable, DimMismatch}
+use Rattle.sam_base.specs.declared.faults.ProgramKind.TheVariants.{UnknownName, ResultOnRight, ScalarOperand, ArityMismatch, RepeatedVariable, DimMismatch}
 use Rattle.sam_model.specs.declared.tensors.Tensor.{Tensor}
 use Rattle.sam_model.specs.Accepted.{is_named}
 use Rattle.notation.specs.declared.statement.AccessText.{AccessText}
@@ -67,17 +67,21 @@ tensor_named name (t ∷ ts) = if bytes_eq name t.name then Some t else tensor_n
 abbrev pub bind_left : ℕ → Tensor → AccessText → Result (List Variable) ProgramRefusal
 bind_left line result a = if bytes_eq a.name result.name then bind_access line [] a result else program_refused (UnknownName a.name) line
 
-abbrev pub bind_named : ℕ → List Variable → AccessText → Option Tensor → Result (List Variable) ProgramRefusal
-bind_named line vars a None = program_refused (UnknownName a.name) line
-bind_named line vars a (Some t) = bind_access line vars a t
+-- what is told of a name on the right that no tensor has: it is that of an earlier result without dimensions, or nothing's
+abbrev pub no_operand : List (List ℕ) → List ℕ → ProgramKind
+no_operand scalars name = if is_named name scalars then ScalarOperand name else UnknownName name
 
--- on the right only declared tensors stand
-abbrev pub bind_right : ℕ → List Tensor → Tensor → List Variable → AccessText → Result (List Variable) ProgramRefusal
-bind_right line tensors result vars a =
+abbrev pub bind_named : ℕ → List (List ℕ) → List Variable → AccessText → Option Tensor → Result (List Variable) ProgramRefusal
+bind_named line scalars vars a None = program_refused (no_operand scalars a.name) line
+bind_named line scalars vars a (Some t) = bind_access line vars a t
+
+-- on the right only these tensors stand, where the earlier results without dimensions have these names
+abbrev pub bind_right : ℕ → List Tensor → List (List ℕ) → Tensor → List Variable → AccessText → Result (List Variable) ProgramRefusal
+bind_right line tensors scalars result vars a =
     if bytes_eq a.name result.name then program_refused (ResultOnRight a.name) line
-    else bind_named line vars a (tensor_named a.name tensors)
+    else bind_named line scalars vars a (tensor_named a.name tensors)
 
-abbrev pub bind_accesses : ℕ → List Tensor → Tensor → List Variable → List AccessText → Result (List Variable) ProgramRefusal
-bind_accesses line tensors result vars [] = Ok vars
-bind_accesses line tensors result vars (a ∷ accesses) =
-    and_then (bind_right line tensors result vars a) (λ more. bind_accesses line tensors result more accesses)
+abbrev pub bind_accesses : ℕ → List Tensor → List (List ℕ) → Tensor → List Variable → List AccessText → Result (List Variable) ProgramRefusal
+bind_accesses line tensors scalars result vars [] = Ok vars
+bind_accesses line tensors scalars result vars (a ∷ accesses) =
+    and_then (bind_right line tensors scalars result vars a) (λ more. bind_accesses line tensors scalars result more accesses)

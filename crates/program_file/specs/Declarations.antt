@@ -2,13 +2,13 @@
 use Rattle.std.specs.Prelude.{ℕ, ◌-◌, ◌^◌, min, Bool, not, ◌&&◌, ◌||◌, ◌==◌, nat_le, List, [], ◌∷◌, length, if◌then◌else◌, Option, Some, None, Result, Ok}
 use Rattle.std.specs.List.{list_all, slice_split}
 use mathlib.Core.List.{map}
-use Rattle.sam_base.specs.declared.faults.ProgramKind.TheVariants.{BadLine, DimensionRange, DuplicateName, DenseResult}
+use Rattle.sam_base.specs.declared.faults.ProgramKind.TheVariants.{BadLine, DimensionRange, DuplicateName}
 use Rattle.sam_text.specs.Numbers.{is_decimal, decimal}
 use Rattle.sam_text.specs.Names.{is_name}
 use Rattle.sam_model.specs.declared.tensors.Format.{Format}
 use Rattle.sam_model.specs.declared.tensors.Format.TheVariants.{Dense, Compressed}
 use Rattle.sam_model.specs.declared.tensors.Tensor.{Tensor}
-use Rattle.sam_model.specs.Accepted.{is_dimension, is_order, is_compressed, is_taken}
+use Rattle.sam_model.specs.Accepted.{is_dimension, is_order, is_taken}
 use Rattle.program_file.specs.Refusals.{ProgramRefusal, program_refused}
 
 -- decimals with a byte between them
@@ -79,7 +79,3 @@ declared tensors line (Some t) =
     if not (list_all is_dimension t.dims) then program_refused DimensionRange line
     else (if is_taken t.name tensors then program_refused (DuplicateName t.name) line
     else Ok t)
-
--- a result is refused last for a dense level
-abbrev pub all_compressed : ℕ → Tensor → Result Tensor ProgramRefusal
-all_compressed line t = if list_all is_compressed t.formats then Ok t else program_refused DenseResult line

@@ -9,3 +9,4 @@ pub mod Checks
 pub mod Programs
 pub mod Names
 pub mod Written
+pub mod Chains

@@ -100,7 +100,7 @@ numbered_reading names f vars left tops sizes =
 abbrev pub bound_of : File → Result (List Variable) ProgramRefusal
 bound_of f =
     and_then (bind_left f.statement_line f.result f.statement.left)
-    (λ vars. bind_accesses f.statement_line f.tensors f.result vars (right_accesses f.statement))
+    (λ vars. bind_accesses f.statement_line f.tensors f.scalars f.result vars (right_accesses f.statement))
 
 abbrev pub checked : File → Result Program ProgramRefusal
 checked f = and_then (bound_of f) (λ vars. and_then (statement_checked f vars) (λ _. Ok (program_of f vars)))

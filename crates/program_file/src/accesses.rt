@@ -3,7 +3,7 @@
 ghost use Rattle.std.specs.Prelude.{◌≡◌, None, Some, [], option_copied, IfOk, OnOk, MatchOption};
 ghost use mathlib.Core.List.{map};
 ghost use Rattle.program_file.specs.Accesses.{tensor_named, is_known, repeated_variable, differs, mismatched, with_variable, with_variables};
-ghost use Rattle.program_file.specs.Accesses.{access_fault, bind_access, bind_left, bind_right, bind_accesses};
+ghost use Rattle.program_file.specs.Accesses.{access_fault, bind_access, bind_left, no_operand, bind_right, bind_accesses};
 ghost use Rattle.program_file.specs.Refusals.{LeavesProgram};
 
 use crate::faults::ProgramFault;
@@ -154,11 +154,13 @@ fn access_fault(
     Ok(None)
 }
 
-/// What the accesses of a statement are checked against: the declared tensors and the result, with the statement's line.
+/// What the accesses of a statement are checked against: the tensors that it may read, the names of the earlier results
+/// without dimensions, and the result, with the statement's line.
 #[derive(Clone, Copy)]
 pub(crate) struct Accesses<'a> {
     pub line: u32,
     pub tensors: &'a [Tensor],
+    pub scalars: &'a [Name],
     pub result: &'a Tensor,
 }
 
@@ -206,7 +208,19 @@ impl Accesses<'_> {
         Err(self.refused(ProgramKind::UnknownName(name)))
     }
 
-    /// Adds the variables of an access of the right side, where only declared tensors may stand.
+    /// What is told of a name on the right that no tensor has.
+    fn no_operand(&self, alloc: Global, name: &[u8]) -> Result<ProgramKind, AllocError>
+        ensures { IfOk result (λ kind. kind ≡ no_operand self.now.scalars.now name.now) }
+    {
+        let copy = Name::from_slice(alloc, name)?;
+        if is_named(name, self.scalars) {
+            Ok(ProgramKind::ScalarOperand(copy))
+        } else {
+            Ok(ProgramKind::UnknownName(copy))
+        }
+    }
+
+    /// Adds the variables of an access of the right side, where only these tensors may stand.
     fn bind_right(
         &self,
         alloc: Global,
@@ -214,7 +228,7 @@ impl Accesses<'_> {
         access: &AccessText,
     ) -> Result<(), ProgramFault>
         ensures { LeavesProgram result (λ _. vars.new)
-            (bind_right self.now.line self.now.tensors.now self.now.result.now vars.old access.now) }
+            (bind_right self.now.line self.now.tensors.now self.now.scalars.now self.now.result.now vars.old access.now) }
     {
         if access.name.as_bytes() == self.result.name.as_bytes() {
             let name = Name::from_slice(alloc, access.name.as_bytes())?;
@@ -223,8 +237,8 @@ impl Accesses<'_> {
         match tensor_named(access.name.as_bytes(), self.tensors) {
             Some(tensor) => self.bind_access(alloc, vars, access, tensor),
             None => {
-                let name = Name::from_slice(alloc, access.name.as_bytes())?;
-                Err(self.refused(ProgramKind::UnknownName(name)))
+                let kind = self.no_operand(alloc, access.name.as_bytes())?;
+                Err(self.refused(kind))
             }
         }
     }
@@ -237,7 +251,7 @@ impl Accesses<'_> {
         accesses: &[&AccessText],
     ) -> Result<(), ProgramFault>
         ensures { LeavesProgram result (λ _. vars.new)
-            (bind_accesses self.now.line self.now.tensors.now self.now.result.now vars.old (map (λ a. a.now) accesses.now)) }
+            (bind_accesses self.now.line self.now.tensors.now self.now.scalars.now self.now.result.now vars.old (map (λ a. a.now) accesses.now)) }
     {
         for access in accesses {
             self.bind_right(alloc, vars, access)?;

@@ -6,14 +6,14 @@ ghost use mathlib.Core.List.{map};
 ghost use Rattle.sam_text.specs.Numbers.{is_decimal};
 ghost use Rattle.sam_text.specs.Words.{words};
 ghost use Rattle.program_file.specs.Declarations.{parts, are_decimals, numbers, capped, is_format_letter, format_of, zero_based};
-ghost use Rattle.program_file.specs.Declarations.{is_shape, tensor_with, scalar, is_printable, tensor_of, result_of, declared, all_compressed};
+ghost use Rattle.program_file.specs.Declarations.{is_shape, tensor_with, scalar, is_printable, tensor_of, result_of, declared};
 ghost use Rattle.sam_text.specs.Names.{is_name};
 ghost use Rattle.program_file.specs.Refusals.{GivesProgram};
 
 use crate::faults::ProgramFault;
 use crate::names::Declared;
 use sam_base::{Items, Name, Nums, ProgramKind, VARIABLES_MOST};
-use sam_model::{Format, Tensor, are_compressed, are_dimensions, is_order};
+use sam_model::{Format, Tensor, are_dimensions, is_order};
 use sam_text::{NumFault, first_word, is_name, read_u64};
 use std::alloc::{AllocError, Global};
 
@@ -241,18 +241,4 @@ pub(crate) fn declared(
         });
     }
     Ok(tensor)
-}
-
-/// A result, unless a level of it is dense.
-pub(crate) fn all_compressed(line: u32, tensor: Tensor) -> Result<Tensor, ProgramFault>
-    ensures { GivesProgram result (all_compressed line tensor) }
-{
-    if are_compressed(tensor.formats.as_slice()) {
-        Ok(tensor)
-    } else {
-        Err(ProgramFault::Refused {
-            kind: ProgramKind::DenseResult,
-            line,
-        })
-    }
 }

@@ -1,16 +1,18 @@
 //! The reading of a program file, line by line.
 
-ghost use Rattle.std.specs.Prelude.{◌≡◌, ◌≤◌, [], ◌∷◌, false, true, length, IfOk, MatchOption, MatchResult};
+ghost use Rattle.std.specs.Prelude.{◌≡◌, ◌+◌, ◌≤◌, [], ◌∷◌, false, true, length, IfOk, MatchOption, MatchResult};
 ghost use Rattle.std.specs.List.{list_all};
+ghost use Rattle.sam_text.specs.Lines.{lines};
 ghost use Rattle.sam_text.specs.Words.{words};
+ghost use Rattle.sam_text.specs.Counted.{counted_lines};
 ghost use Rattle.sam_text.specs.Names.{is_name};
 ghost use Rattle.sam_text.specs.Remaining.{lines_left, past_end, text_length, numbered};
 ghost use Rattle.sam_base.specs.declared.TheConstants.{FILE_MOST};
 ghost use Rattle.notation.specs.Positions.{statement_reading};
-ghost use Rattle.program_file.specs.Files.{declarations_in, result_declared, compute_in, noted, loops_in, loop_names, end_in, starts_again, file_reading};
+ghost use Rattle.program_file.specs.Files.{declarations_in, result_declared, compute_in, noted, loops_in, loop_names, group_in, end_in, starts_again, file_with, file_reading};
 ghost use Rattle.program_file.specs.Refusals.{GivesProgram, LeavesProgram};
 
-use crate::declarations::{all_compressed, declared, result_of, tensor_of};
+use crate::declarations::{declared, result_of, tensor_of};
 use crate::faults::ProgramFault;
 use crate::keywords::behind;
 use crate::names::Declared;
@@ -20,10 +22,23 @@ use sam_model::Tensor;
 use sam_text::{Line, Lines, first_word, is_name};
 use std::alloc::{AllocError, Global};
 
-/// A program file as it is written: declarations, a statement and loops, by names.
+/// A result with its statement and its loops, by names, and the lines of these.
+#[derive(Drop)]
+pub(crate) struct Group {
+    pub result: Tensor,
+    pub statement: Statement,
+    pub loops: Items<Name>,
+    pub result_line: u32,
+    pub statement_line: u32,
+    pub loops_line: u32,
+}
+
+/// A statement as it is written, by names: the tensors that it may read, the names of the earlier results without
+/// dimensions, which it may not, its result, and its loops.
 #[derive(Drop)]
 pub(crate) struct File {
     pub tensors: Items<Tensor>,
+    pub scalars: Items<Name>,
     pub result: Tensor,
     pub statement: Statement,
     pub loops: Items<Name>,
@@ -31,7 +46,22 @@ pub(crate) struct File {
     pub loops_line: u32,
 }
 
-fn bad_line(line: u32) -> ProgramFault
+/// A group that may read these tensors, where the earlier results without dimensions have these names.
+pub(crate) fn file_with(tensors: Items<Tensor>, scalars: Items<Name>, group: Group) -> File
+    ensures { result ≡ file_with tensors scalars group }
+{
+    File {
+        tensors,
+        scalars,
+        result: group.result,
+        statement: group.statement,
+        loops: group.loops,
+        statement_line: group.statement_line,
+        loops_line: group.loops_line,
+    }
+}
+
+pub(crate) fn bad_line(line: u32) -> ProgramFault
     ensures { result ≡ ProgramFault.Refused ProgramKind.BadLine line }
 {
     ProgramFault::Refused {
@@ -92,7 +122,7 @@ fn begins_again(line: &[u8]) -> bool
 }
 
 /// The result that a line declares, behind these tensors.
-fn read_result(
+pub(crate) fn read_result(
     alloc: Global,
     tensors: &Declared,
     line: &[u8],
@@ -104,18 +134,36 @@ fn read_result(
         Some(rest) => result_of(alloc, rest)?,
         None => None,
     };
-    let tensor = declared(alloc, tensors, number, found)?;
-    all_compressed(number, tensor)
+    declared(alloc, tensors, number, found)
 }
 
 /// A reader of the parts of a program file, in their order.
 #[derive(Drop)]
-struct FileReader<'a> {
-    lines: Lines<'a>,
+pub(crate) struct FileReader<'a> {
+    pub lines: Lines<'a>,
     ghost short: { text_length lines ≤ FILE_MOST },
 }
 
 impl<'a> FileReader<'a> {
+    pub(crate) fn new(text: &'a [u8]) -> FileReader<'a>
+        requires { length text.now ≤ FILE_MOST }
+        ensures left { lines_left result.lines ≡ counted_lines 1 (lines text.now) }
+        ensures past { past_end result.lines ≡ 1 + length (lines text.now) }
+    {
+        FileReader {
+            lines: Lines::new(text),
+        }
+    }
+
+    /// The next line, if there is one.
+    pub(crate) fn next(&mut self) -> Option<Line<'a>>
+        ensures next { MatchOption result (lines_left self.old.lines ≡ [])
+            (λ line. lines_left self.old.lines ≡ numbered line ∷ lines_left self.new.lines) }
+        ensures past { past_end self.new.lines ≡ past_end self.old.lines }
+    {
+        self.lines.next().ok()
+    }
+
     /// The next line; where there is none, it is bad.
     fn line(&mut self) -> Result<Line<'a>, ProgramFault>
         ensures next { MatchResult result (λ line. lines_left self.old.lines ≡ numbered line ∷ lines_left self.new.lines)
@@ -129,8 +177,11 @@ impl<'a> FileReader<'a> {
         }
     }
 
-    /// The tensors that are declared, and the result.
-    fn declarations(&mut self, alloc: Global) -> Result<(Items<Tensor>, Tensor), ProgramFault>
+    /// The tensors that are declared, and the result, with the number of its line.
+    pub(crate) fn declarations(
+        &mut self,
+        alloc: Global,
+    ) -> Result<(Declared, (Tensor, u32)), ProgramFault>
         ensures found { LeavesProgram result (λ found. (found, lines_left self.new.lines))
             (declarations_in (past_end self.old.lines) [] (lines_left self.old.lines)) }
         ensures past { past_end self.new.lines ≡ past_end self.old.lines }
@@ -146,7 +197,7 @@ impl<'a> FileReader<'a> {
                 }
                 None => {
                     let found = read_result(alloc, &tensors, line.text, line.number)?;
-                    return Ok((tensors.into_tensors(), found));
+                    return Ok((tensors, (found, line.number)));
                 }
             }
         }
@@ -178,6 +229,29 @@ impl<'a> FileReader<'a> {
         }
     }
 
+    /// The group of a result on this line: the lines behind that.
+    pub(crate) fn group(
+        &mut self,
+        alloc: Global,
+        declared: Tensor,
+        result_line: u32,
+    ) -> Result<Group, ProgramFault>
+        ensures found { LeavesProgram result (λ found. (found, lines_left self.new.lines))
+            (group_in (past_end self.old.lines) (declared, result_line) (lines_left self.old.lines)) }
+        ensures past { past_end self.new.lines ≡ past_end self.old.lines }
+    {
+        let (statement, statement_line) = self.compute(alloc)?;
+        let (loops, loops_line) = self.loops(alloc)?;
+        Ok(Group {
+            result: declared,
+            statement,
+            loops,
+            result_line,
+            statement_line,
+            loops_line,
+        })
+    }
+
     /// Nothing stands behind the loops.
     fn end(&mut self) -> Result<(), ProgramFault>
         ensures { GivesProgram result (end_in (lines_left self.old.lines)) }
@@ -204,19 +278,9 @@ pub(crate) fn read_file(alloc: Global, text: &[u8]) -> Result<File, ProgramFault
     requires { length text.now ≤ FILE_MOST }
     ensures { GivesProgram result (file_reading text.now) }
 {
-    let mut reader = FileReader {
-        lines: Lines::new(text),
-    };
-    let (tensors, result_tensor) = reader.declarations(alloc)?;
-    let (statement, statement_line) = reader.compute(alloc)?;
-    let (loops, loops_line) = reader.loops(alloc)?;
+    let mut reader = FileReader::new(text);
+    let (tensors, (result_tensor, line)) = reader.declarations(alloc)?;
+    let group = reader.group(alloc, result_tensor, line)?;
     reader.end()?;
-    Ok(File {
-        tensors,
-        result: result_tensor,
-        statement,
-        loops,
-        statement_line,
-        loops_line,
-    })
+    Ok(file_with(tensors.into_tensors(), Items::new(alloc), group))
 }

@@ -2,10 +2,13 @@
 #![tactic(auto)]
 
 mod accesses;
+mod chains;
 mod checks;
+mod copies;
 mod declarations;
 mod faults;
 mod files;
+mod groups;
 mod keywords;
 mod names;
 mod numbers;
@@ -13,5 +16,6 @@ mod programs;
 mod statements;
 mod sums;
 
+pub use chains::read_chain;
 pub use faults::ProgramFault;
 pub use programs::read_program;

@@ -34,7 +34,8 @@ pub(crate) fn are_loops(vars: &[Variable], loops: &[Name]) -> bool
         && all_named(vars, loops)
 }
 
-fn copied_names(alloc: Global, names: &[Name]) -> Result<Items<Name>, AllocError>
+/// Copies of some names.
+pub(crate) fn copied_names(alloc: Global, names: &[Name]) -> Result<Items<Name>, AllocError>
     ensures { IfOk result (λ copies. copies ≡ names.now) }
 {
     let mut copies = Items::new(alloc);

@@ -83,6 +83,7 @@ fn bound_of(alloc: Global, file: &File) -> Result<Items<Variable>, ProgramFault>
     let accesses = Accesses {
         line: file.statement_line,
         tensors: file.tensors.as_slice(),
+        scalars: file.scalars.as_slice(),
         result: &file.result,
     };
     let mut vars = Items::new(alloc);
@@ -253,7 +254,8 @@ fn numbered_program(
     })
 }
 
-fn check_file(alloc: Global, file: File) -> Result<Program, ProgramFault>
+/// The program of a file, unless a check refuses it.
+pub(crate) fn check_file(alloc: Global, file: File) -> Result<Program, ProgramFault>
     ensures { GivesProgram result (checked file) }
 {
     let vars = bound_of(alloc, &file)?;

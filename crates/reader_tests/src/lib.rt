@@ -1,6 +1,10 @@
-//! Tests of the readers: words, statements, expressions, program files, tensor files and stored tensors.
+//! Tests of the readers: words, statements, expressions, program files, tensor files and stored tensors; and of results that are closed.
 #![tactic(auto)]
 
+#[cfg(test)]
+mod chains;
+#[cfg(test)]
+mod closings;
 #[cfg(test)]
 mod expressions;
 #[cfg(test)]

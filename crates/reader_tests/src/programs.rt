@@ -3,7 +3,7 @@
 use crate::tables::{case_at, unfolded};
 use expand::accepted;
 use program_file::{ProgramFault, read_program};
-use sam_base::{Fault, Name, fault_text};
+use sam_base::{Fault, Name, ProgramKind, fault_text};
 use std::alloc::Global;
 use std::test::Fail;
 
@@ -26,7 +26,6 @@ tensor b 18446744073709551617 d 1 b.tns|>1: DimensionRange
 |tensor b 4 c 01 f|tensor b 2147483648 c 1 f|>3: DimensionRange
 tensor b 4 c 1 f|tensor b 4 c 1 f|>2: DuplicateName b
 tensor b 4 c 1 f|result b 4 d 1|>2: DuplicateName b
-tensor b 4 c 1 f|result x 4 d 1|compute y|>2: DenseResult
 result x|compute  x = (b|loops i,|>2: ExpectedOperator 8
 result x| compute x |loops|>2: ExpectedEquals 3
 result x|compute x = 2|loops 2|>3: BadLine
@@ -69,22 +68,31 @@ tensor d 2 c 1 f|result x 2 c 1|compute x(i) = (d(i)+2)*(d(i)+2)*(d(i)+2)*(d(i)+
 tensor d 2 c 1 f|result x 2 c 1|compute x(i) = (d(i)*2*2*2)*(d(i)*2*2*2)*d(i)|loops>3: ExpandedFactors
 tensor d 2 c 1 f|result x 2 c 1|compute x(i) = d(i) * (d(i) + 2) + (1 - 2) * 3|loops>3: NoAccess
 tensor B 2x3 cc 1,2 f|tensor d 2 c 1 f|result x 2 c 1|compute x(i) = sum(j, B(i,j)) + sum(j, B(i,j) + d(i)) - (d(i) - 2 * d(i))|loops i j>accepted
+tensor b 4 c 1 f|result x 4 d 1|compute x(i) = b(i)|loops i>accepted
 # y = B c|tensor B 3x4 dc 2,1 B.tns||\ttensor c 4 c 1 c.tns\r|result y 3 c 1|compute y(i) = - B(i,j)*c(j)*2 + B(i, j)|loops j i>accepted
 ";
+
+/// Whether a refusal of this kind at this line is printed as it is told.
+pub(crate) fn is_printed(
+    alloc: Global,
+    kind: ProgramKind,
+    line: u32,
+    told: &[u8],
+) -> Result<bool, Fail> {
+    let mut expected = Name::from_slice(alloc, b"sam: program line ")?;
+    expected.append(told)?;
+    expected.push(b'\n')?;
+    let fault = Fault::Program { kind, line };
+    Ok(fault_text(alloc, &fault)?.as_bytes() == expected.as_bytes())
+}
 
 /// Whether a text is accepted or refused as it is told.
 fn is_told(alloc: Global, text: &[u8], told: &[u8]) -> Result<bool, Fail> {
     if text.len() > 1000 {
         return Ok(false);
     }
-    let mut expected = Name::from_slice(alloc, b"sam: program line ")?;
-    expected.append(told)?;
-    expected.push(b'\n')?;
     match read_program(alloc, text) {
-        Err(ProgramFault::Refused { kind, line }) => {
-            let fault = Fault::Program { kind, line };
-            Ok(fault_text(alloc, &fault)?.as_bytes() == expected.as_bytes())
-        }
+        Err(ProgramFault::Refused { kind, line }) => is_printed(alloc, kind, line, told),
         Ok(program) => Ok(accepted(alloc, &program)? && told == b"accepted".as_slice()),
         Err(ProgramFault::OutOfMemory) => Ok(false),
     }
@@ -100,10 +108,10 @@ fn is_right(alloc: Global, table: &[u8], number: usize) -> Result<bool, Fail> {
 
 #[test]
 fn texts_are_read(rt: HostRuntime) -> Result<(), Fail> {
-    for number in 0..24 {
+    for number in 0..23 {
         assert!(rt; is_right(rt.alloc(), LINES, number)?, "line {number}");
     }
-    for number in 0..35 {
+    for number in 0..36 {
         assert!(rt; is_right(rt.alloc(), CHECKS, number)?, "check {number}");
     }
     Ok(())

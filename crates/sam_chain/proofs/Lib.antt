@@ -1,0 +1,5 @@
+pub mod FitLemmas
+mod EntryLemmas
+mod RunLemmas
+mod LastLemmas
+mod Worked

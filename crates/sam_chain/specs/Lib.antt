@@ -1,0 +1,4 @@
+pub mod Fitting
+pub mod Running
+pub mod RunningCode
+pub mod Laws
