@@ -68,9 +68,10 @@ fn wiring_verdict(fault: WiringFault) -> Result<Verdict, AllocError>
 /// The verdict on a graph: whether it computes the tensor of a program, by the rules on graphs, or the first rule that it breaks and the
 /// smallest place where it does.
 ///
-/// A graph that is verified is well formed, and over all entries of the program's tensors, few enough to be stored, its streams fit together, over each channel passes
-/// what its label says, and what its writers leave is the program's tensor, in whatever order its blocks move. The graph that the program is
-/// lowered to is verified. Not every right graph is: one that joins the terms in another order, or in another way, breaks the rule on labels.
+/// A graph that is verified is well formed, and over all entries of the program's tensors its streams fit together, over each channel
+/// passes what its label says, and what its writers leave is the program's tensor, in whatever order its blocks move. The graph that the
+/// program is lowered to is verified. Not every right graph is: one that joins the terms in another order, or in another way, breaks the
+/// rule on labels.
 ///
 /// It takes time in proportion to the blocks, their ports and the channels. A graph with 2^32 blocks is given up as for want of memory.
 pub fn verify_graph(alloc: Global, g: &Graph, p: &Program) -> Result<Verdict, AllocError>

@@ -19,7 +19,7 @@ use Rattle.sam_model.specs.Statement.{denoted_at, in_pattern, statement_entries}
 use Rattle.sam_model.specs.Tensors.{entry_list}
 use Rattle.sam_model.proofs.AcceptedPrograms.{well-formed, result-formed}
 use Rattle.sam_model.proofs.Lists.{Each-filter, Each-mapped, Each-weaker}
-use Rattle.tns_io.proofs.FoundEntries.{all-pass, tuples-within}
+use Rattle.tns_io.proofs.FoundEntries.{all-pass, each-passes, tuples-within}
 use Rattle.sam_chain.specs.Fitting.{Fits, EachFits}
 use Rattle.sam_chain.specs.Running.{entries_at}
 
@@ -78,23 +78,30 @@ module _ (arity : ℕ) (f : List ℕ → List ℕ) (long : (x : List ℕ) → le
 
 -- ---- the entries of a result
 
-pub result-fits : (p : Program) (es : List Entries) → is_well_formed p.result ≡ true → Fits p.result (entries_as p.result (statement_entries p es))
-result-fits p es formed =
-    let t = p.result in
-    let facts = well-formed t formed in
-    let listed = statement_entries p es in
-    let sizes = items_at t.dims t.order in
+-- what is listed below the sizes of a result's levels fits it
+each-fits : (t : Tensor) (listed : List (List ℕ × ℕ)) → is_well_formed t ≡ true → Each (λ (e : List ℕ × ℕ). within (items_at t.dims t.order) e.0 ≡ true) listed → Fits t (entries_as t listed)
+each-fits t listed formed inside =
     let long = λ (x : List ℕ). length-map-range_with_len (coordinate t.order x) 0 (length t.order) in
     let each : Each (λ (e : List ℕ × ℕ). within t.dims e.0 ≡ true) (map (λ (e : List ℕ × ℕ). (by_modes t.order e.0, e.1)) listed) =
     Each-mapped (λ (e : List ℕ × ℕ). within t.dims e.0 ≡ true) (λ (e : List ℕ × ℕ). (by_modes t.order e.0, e.1)) listed
-    (Each-mapped (λ (e : List ℕ × ℕ). within t.dims (by_modes t.order e.0) ≡ true) (λ x. (x, denoted_at p es x)) (filter (in_pattern p es) (tuples sizes))
-    (Each-filter (λ x. within t.dims (by_modes t.order x) ≡ true) (in_pattern p es) (tuples sizes)
-    (Each-weaker (λ x. within sizes x ≡ true) (λ x. within t.dims (by_modes t.order x) ≡ true) (λ x h. by-modes-within t x formed h) (tuples sizes) (tuples-within sizes)))) in
+    (Each-weaker (λ (e : List ℕ × ℕ). within (items_at t.dims t.order) e.0 ≡ true) (λ (e : List ℕ × ℕ). within t.dims (by_modes t.order e.0) ≡ true)
+    (λ e h. by-modes-within t e.0 formed h) listed inside) in
     record {
-      arity = eqb-true _ _ (and_parts _ _ facts.order).0;
+      arity = eqb-true _ _ (and_parts _ _ (well-formed t formed).order).0;
       whole = rows-long (length t.order) (by_modes t.order) long listed;
       in_range = rw (rows-taken (length t.order) (by_modes t.order) long listed) (all-pass (λ (e : List ℕ × ℕ). within t.dims e.0) _ each);
     }
+
+pub listed-fits : (t : Tensor) (listed : List (List ℕ × ℕ)) → is_well_formed t ≡ true → list_all (λ (e : List ℕ × ℕ). within (items_at t.dims t.order) e.0) listed ≡ true
+    → Fits t (entries_as t listed)
+listed-fits t listed formed inside = each-fits t listed formed (each-passes (λ (e : List ℕ × ℕ). within (items_at t.dims t.order) e.0) listed inside)
+
+pub result-fits : (p : Program) (es : List Entries) → is_well_formed p.result ≡ true → Fits p.result (entries_as p.result (statement_entries p es))
+result-fits p es formed =
+    let sizes = items_at p.result.dims p.result.order in
+    each-fits p.result (statement_entries p es) formed
+    (Each-mapped (λ (e : List ℕ × ℕ). within sizes e.0 ≡ true) (λ x. (x, denoted_at p es x)) (filter (in_pattern p es) (tuples sizes))
+    (Each-filter (λ x. within sizes x ≡ true) (in_pattern p es) (tuples sizes) (tuples-within sizes)))
 
 -- ---- the entries of each step
 

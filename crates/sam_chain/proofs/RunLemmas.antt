@@ -7,12 +7,12 @@ use Rattle.sam_model.specs.declared.tensors.Tensor.{Tensor}
 use Rattle.sam_model.specs.declared.tensors.Entries.{Entries}
 use Rattle.sam_model.specs.declared.tensors.Written.{Written}
 use Rattle.sam_model.specs.declared.program.Program.{Program}
-use Rattle.sam_model.specs.Chains.{entries_as, and_result, StepsFollow, entries_after}
+use Rattle.sam_model.specs.Chains.{entries_as, and_result, StepsFollow, AreChained, declared_tensors, entries_after}
 use Rattle.sam_model.specs.Listing.{listing}
 use Rattle.sam_model.specs.Statement.{statement_entries}
 use Rattle.sam_model.specs.Program.{accepted}
 use Rattle.sam_chain.specs.Fitting.{EachFits}
-use Rattle.sam_chain.specs.Running.{declared, files_of, entries_behind, entries_at, Running, given, IsResult, IsResultOf, IsLast, Stands}
+use Rattle.sam_chain.specs.Running.{files_of, entries_behind, entries_at, Running, given, IsResult, IsResultOf, IsLast, Stands}
 use Rattle.sam_chain.proofs.FitLemmas.{step-fits}
 
 -- ---- the start
@@ -29,10 +29,10 @@ take-whole zero (x ∷ xs) h = absurd (omega (arith, h))
 take-whole (suc n) [] h = refl
 take-whole {A = A} (suc n) (x ∷ xs) h = ap (λ (t : List A). x ∷ t) (take-whole n xs (omega (arith, h)))
 
-pub files-are : (steps : List Program) (es : List Entries) → EachFits (declared steps) es → files_of steps es ≡ es
-files-are steps es h = take-whole (length (declared steps)) es (as-many (declared steps) es h)
+pub files-are : (steps : List Program) (es : List Entries) → EachFits (declared_tensors steps) es → files_of steps es ≡ es
+files-are steps es h = take-whole (length (declared_tensors steps)) es (as-many (declared_tensors steps) es h)
 
-pub stands-first : (steps : List Program) (es : List Entries) (left : ℕ) → left ≡ length steps → 1 ≤ length steps → StepsFollow (declared steps) steps → EachFits (declared steps) es
+pub stands-first : (steps : List Program) (es : List Entries) (left : ℕ) → left ≡ length steps → 1 ≤ length steps → AreChained steps → EachFits (declared_tensors steps) es
     → Stands steps es left None
 stands-first steps es left all some follow fit =
     let files = files-are steps es fit in
@@ -46,7 +46,7 @@ stands-first steps es left all some follow fit =
       given = rw none refl;
     }
 
-pub first-view : (steps : List Program) (es : List Entries) (left : ℕ) → left ≡ length steps → EachFits (declared steps) es
+pub first-view : (steps : List Program) (es : List Entries) (left : ℕ) → left ≡ length steps → EachFits (declared_tensors steps) es
     → ◌≡◌ {A = Running} (record { steps = steps; files = files_of steps es; step = length steps - left; last = None }) (record { steps = steps; files = es; step = 0; last = None })
 first-view steps es left all fit = let none : length steps - left ≡ 0 = omega (arith, all) in rw (none, files-are steps es fit) refl
 
@@ -54,7 +54,7 @@ first-view steps es left all fit = let none : length steps - left ≡ 0 = omega 
 
 pub next-accepted : (steps : List Program) (so_far : List Entries) (left : ℕ) (last : Option Written) (p : Program) → Stands steps so_far left last → slice_get steps (length steps - left) ≡ Some p
     → accepted p ≡ true
-next-accepted steps so_far left last p now at = (step-fits (declared steps) steps (files_of steps so_far) (length steps - left) p now.follow now.fit at).0
+next-accepted steps so_far left last p now at = (step-fits (declared_tensors steps) steps (files_of steps so_far) (length steps - left) p now.follow now.fit at).0
 
 pub next-fits : (steps : List Program) (so_far : List Entries) (left : ℕ) (last : Option Written) → Stands steps so_far left last
     → IfSome (slice_get steps (length steps - left)) (λ p. EachFits p.tensors so_far)
@@ -62,7 +62,7 @@ next-fits steps so_far left last now = by_case (slice_get steps (length steps - 
   where
     by_case : (o : Option Program) → slice_get steps (length steps - left) ≡ o → IfSome o (λ p. EachFits p.tensors so_far)
     by_case None e = tt
-    by_case (Some p) e = rw now.entries (step-fits (declared steps) steps (files_of steps so_far) (length steps - left) p now.follow now.fit e).1
+    by_case (Some p) e = rw now.entries (step-fits (declared_tensors steps) steps (files_of steps so_far) (length steps - left) p now.follow now.fit e).1
 
 -- ---- one step on
 
@@ -99,7 +99,7 @@ module _ (steps : List Program) (so_far : List Entries) (left : ℕ) (last : Opt
   after = entries_after p so_far
 
   files-kept : files_of steps after ≡ files
-  files-kept = files-kept-by (length (declared steps)) p.result so_far _ (enough (declared steps) so_far now.fit)
+  files-kept = files-kept-by (length (declared_tensors steps)) p.result so_far _ (enough (declared_tensors steps) so_far now.fit)
 
   -- what the result of this step is
   this-result : IsResult p so_far w

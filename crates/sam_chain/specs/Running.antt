@@ -4,19 +4,14 @@ use Rattle.sam_model.specs.declared.tensors.Tensor.{Tensor}
 use Rattle.sam_model.specs.declared.tensors.Entries.{Entries}
 use Rattle.sam_model.specs.declared.tensors.Written.{Written}
 use Rattle.sam_model.specs.declared.program.Program.{Program}
-use Rattle.sam_model.specs.Chains.{StepsFollow, entries_after}
+use Rattle.sam_model.specs.Chains.{AreChained, declared_tensors, entries_after}
 use Rattle.sam_model.specs.Listing.{InRange, listing}
 use Rattle.sam_model.specs.Statement.{statement_entries}
 use Rattle.sam_chain.specs.Fitting.{EachFits}
 
--- the declared tensors
-abbrev pub declared : List Program → List Tensor
-declared [] = []
-declared (p ∷ steps) = p.tensors
-
 -- of the entries so far, those of the declared tensors
 abbrev pub files_of : List Program → List Entries → List Entries
-files_of steps so_far = take (length (declared steps)) so_far
+files_of steps so_far = take (length (declared_tensors steps)) so_far
 
 -- the entries of the tensors behind all of these steps
 abbrev pub entries_behind : List Program → List Entries → List Entries
@@ -57,7 +52,7 @@ IsLast steps files (suc n) (Some w) = IsResultOf steps files n w
 pub record Stands (steps : List Program) (so_far : List Entries) (left : ℕ) (last : Option Written) : Type 0 where
   pub some : 1 ≤ length steps
   pub few : left ≤ length steps
-  pub follow : StepsFollow (declared steps) steps
-  pub fit : EachFits (declared steps) (files_of steps so_far)
+  pub follow : AreChained steps
+  pub fit : EachFits (declared_tensors steps) (files_of steps so_far)
   pub entries : so_far ≡ entries_at steps (files_of steps so_far) (length steps - left)
   pub given : IsLast steps (files_of steps so_far) (length steps - left) last

@@ -1,10 +1,10 @@
 //! The run of a chain, step after step.
 
 ghost use Rattle.std.specs.Prelude.{◌≡◌, ◌<◌, ◌≤◌, ◌-◌, ◌^◌, [], length, min, true, slice_get, Some, None, IfSome, OnOk, OnErr};
-ghost use Rattle.sam_model.specs.Chains.{StepsFollow};
+ghost use Rattle.sam_model.specs.Chains.{AreChained, declared_tensors};
 ghost use Rattle.sam_model.specs.Program.{accepted};
 ghost use Rattle.sam_chain.specs.Fitting.{EachFits};
-ghost use Rattle.sam_chain.specs.Running.{Running, declared, entries_at, given, IsResultOf};
+ghost use Rattle.sam_chain.specs.Running.{Running, entries_at, given, IsResultOf};
 
 use crate::entries::entries_of;
 use sam_base::Items;
@@ -40,8 +40,8 @@ impl ChainRun {
     /// The run of a chain before its first step, over the entries of the declared tensors.
     pub fn new(c: Chain, e: Items<Entries>) -> ChainRun
         requires some { 1 ≤ length c.steps }
-        requires follow { StepsFollow (declared c.steps) c.steps }
-        requires files { EachFits (declared c.steps) e }
+        requires follow { AreChained c.steps }
+        requires files { EachFits (declared_tensors c.steps) e }
         ensures { result ≡ record { steps = c.steps; files = e; step = 0; last = None } }
     {
         let Chain { steps, lines: _ } = c;

@@ -28,6 +28,15 @@ StepsFollow tensors [] = Unit {0}
 StepsFollow tensors (p ∷ steps) =
     (p.tensors ≡ tensors) × ((accepted p ≡ true) × StepsFollow (and_result p.result tensors p.result) steps)
 
+-- the tensors that the first step reads are those that are declared
+abbrev pub declared_tensors : List Program → List Tensor
+declared_tensors [] = []
+declared_tensors (p ∷ steps) = p.tensors
+
+-- these steps make a chain
+abbrev pub AreChained : List Program → Type 0
+AreChained steps = StepsFollow (declared_tensors steps) steps
+
 -- the entries of the tensors after a step
 abbrev pub entries_after : Program → List Entries → List Entries
 entries_after p es = and_result p.result es (entries_as p.result (statement_entries p es))
