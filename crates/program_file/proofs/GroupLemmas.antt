@@ -14,7 +14,8 @@ use Rattle.program_file.specs.declared.faults.ProgramFault.TheVariants.{OutOfMem
 use Rattle.program_file.specs.Refusals.{ProgramRefusal, and_then, FailsProgram}
 use Rattle.program_file.specs.Files.{result_declared, declarations_in, group_in}
 use Rattle.program_file.specs.Chains.{is_result, later_result, later_group, last_in, groups_in, chain_parts_in}
-use Rattle.program_file.proofs.DeclaredLemmas.{then-ok, if-ok, ok-same, no_refusal, Declared, push-declared, taken-push, result-ok, IsGroup, group-ok, group-result}
+use Rattle.program_file.proofs.DeclaredLemmas.{then-ok, if-ok, read_as, ok-same, no_refusal, Declared, push-declared, taken-push, result-ok, IsGroup}
+use Rattle.program_file.proofs.DeclaredLemmas.{group-ok, group-result}
 use Rattle.program_file.proofs.FileLemmas.{group-tops}
 
 -- a group may stand behind these tensors
@@ -129,6 +130,17 @@ groups-fit past ts (suc room) groups (l ∷ ls) found d h e =
     let new = subst (λ (t : Tensor). is_result t.name groups ≡ false) same m.later.new in
     groups-fit past ts room (groups ++ m.group.0 ∷ []) m.group.1 found d (push-fits ts groups m.group.0 h fit new) m.rest
 
+-- the first of them stays the first
+pub groups-first :
+    (past : ℕ) (ts : List Tensor) (room : ℕ) (g : Group) (groups : List Group) (ls : List NumberedLine) (found : List Group) →
+    groups_in past ts room (g ∷ groups) ls ≡ Ok found → (more : List Group) × (g ∷ more ≡ found)
+groups-first past ts zero g groups ls found e =
+    (groups, ok-same (g ∷ groups) found (then-ok (last_in ls) (λ _. Ok (g ∷ groups)) found e).next)
+groups-first past ts (suc room) g groups [] found e = (groups, ok-same (g ∷ groups) found e)
+groups-first past ts (suc room) g groups (l ∷ ls) found e =
+    let m = more-ok past ts room (g ∷ groups) l ls found e in
+    groups-first past ts room g (groups ++ m.group.0 ∷ []) m.group.1 found m.rest
+
 -- how many groups are read
 pub groups-count : (past : ℕ) (ts : List Tensor) (room : ℕ) (groups : List Group) (ls : List NumberedLine) (found : List Group) → groups_in past ts room groups ls ≡ Ok found
     → (length groups ≤ length found) × (length found ≤ length groups + room)
@@ -144,6 +156,39 @@ groups-count past ts (suc room) groups (l ∷ ls) found e =
     let h = groups-count past ts room (groups ++ m.group.0 ∷ []) m.group.1 found m.rest in
     let more = length-append groups (m.group.0 ∷ []) in
     (omega (arith, h.0, more), omega (arith, h.1, more))
+
+-- ---- files
+
+-- the parts of a file of several statements that is read
+pub record IsChainRead (past : ℕ) (ls : List NumberedLine) (f : ChainFile) : Type 0 where
+  pub declared : (List Tensor × (Tensor × ℕ)) × List NumberedLine
+  pub group : Group × List NumberedLine
+  pub declared_in : declarations_in past [] ls ≡ Ok declared
+  pub grouped : group_in past declared.0.1 declared.1 ≡ Ok group
+  pub groups : groups_in past declared.0.0 7 (group.0 ∷ []) group.1 ≡ Ok f.groups
+  pub tensors : declared.0.0 ≡ f.tensors
+
+abbrev chain_file : List Tensor → List Group → ChainFile
+chain_file tensors groups = record { tensors = tensors; groups = groups }
+
+abbrev and_groups : ℕ → List Tensor → Group × List NumberedLine → Result ChainFile ProgramRefusal
+and_groups past ts g = and_then (groups_in past ts 7 (g.0 ∷ []) g.1) (λ groups. Ok (chain_file ts groups))
+
+pub chain_parts-ok : (past : ℕ) (ls : List NumberedLine) (f : ChainFile) → chain_parts_in past ls ≡ Ok f → IsChainRead past ls f
+chain_parts-ok past ls f e =
+    let d = then-ok (declarations_in past [] ls) (λ d. and_then (group_in past d.0.1 d.1) (and_groups past d.0.0)) f e in
+    let ts = d.value.0.0 in
+    let g = then-ok (group_in past d.value.0.1 d.value.1) (and_groups past ts) f d.next in
+    let r = then-ok (groups_in past ts 7 (g.value.0 ∷ []) g.value.1) (λ groups. Ok (chain_file ts groups)) f g.next in
+    let is = ok-same (chain_file ts r.value) f r.next in
+    record {
+      declared = d.value;
+      group = g.value;
+      declared_in = d.was;
+      grouped = g.was;
+      groups = r.was ∙ ap (λ (x : ChainFile). read_as x.groups) is;
+      tensors = ap (λ (x : ChainFile). x.tensors) is;
+    }
 
 -- ---- what is read
 
@@ -162,9 +207,9 @@ fails-then OutOfMemory r next h = tt
 fails-then (Refused kind line) r next h = ap (λ q. and_then q next) h
 
 -- the first group and those behind it make the file
-pub parts-made : (past : ℕ) (ls : List NumberedLine) (d : (List Tensor × (Tensor × ℕ)) × List NumberedLine) (g : Group × List NumberedLine) → declarations_in past [] ls ≡ Ok d → group_in past d.0.1 d.1 ≡ Ok g
-    → chain_parts_in past ls ≡ and_then (groups_in past d.0.0 7 (g.0 ∷ []) g.1) (λ groups. Ok (record { tensors = d.0.0; groups = groups }))
+pub parts-made :
+    (past : ℕ) (ls : List NumberedLine) (d : (List Tensor × (Tensor × ℕ)) × List NumberedLine) (g : Group × List NumberedLine) →
+    declarations_in past [] ls ≡ Ok d → group_in past d.0.1 d.1 ≡ Ok g → chain_parts_in past ls ≡ and_groups past d.0.0 g
 parts-made past ls d g e h =
-    let made : List Tensor → List Group → ChainFile = λ ts groups. record { tensors = ts; groups = groups } in
-    ap (λ r. and_then r (λ d. and_then (group_in past d.0.1 d.1) (λ g. and_then (groups_in past d.0.0 7 (g.0 ∷ []) g.1) (λ groups. Ok (made d.0.0 groups))))) e
-    ∙ ap (λ r. and_then r (λ g. and_then (groups_in past d.0.0 7 (g.0 ∷ []) g.1) (λ groups. Ok (made d.0.0 groups)))) h
+    ap (λ r. and_then r (λ d. and_then (group_in past d.0.1 d.1) (and_groups past d.0.0))) e
+    ∙ ap (λ r. and_then r (and_groups past d.0.0)) h

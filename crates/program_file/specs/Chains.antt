@@ -86,8 +86,3 @@ chain_of f = and_then (steps_of f.tensors [] f.groups) (λ steps. Ok (record { s
 -- the chain that a text writes, or its first fault: the lines first, then the checks, group by group
 abbrev pub chain_reading : List ℕ → Result Chain ProgramRefusal
 chain_reading text = and_then (chain_file_reading text) chain_of
-
--- the tensors that the first step reads are those that are declared
-abbrev pub declared_tensors : List Program → List Tensor
-declared_tensors [] = []
-declared_tensors (p ∷ steps) = p.tensors

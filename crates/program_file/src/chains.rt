@@ -1,11 +1,11 @@
 //! The chain of programs that a file of several statements writes.
 
-ghost use Rattle.std.specs.Prelude.{◌≡◌, ◌≤◌, length, [], IfOk, OnOk};
+ghost use Rattle.std.specs.Prelude.{◌≡◌, ◌<◌, ◌≤◌, ◌^◌, All, length, [], IfOk, OnOk};
 ghost use mathlib.Core.List.{map};
 ghost use Rattle.sam_base.specs.declared.TheConstants.{FILE_MOST};
-ghost use Rattle.sam_model.specs.Chains.{and_result, StepsFollow};
+ghost use Rattle.sam_model.specs.Chains.{and_result, AreChained};
 ghost use Rattle.program_file.specs.Files.{file_with};
-ghost use Rattle.program_file.specs.Chains.{and_scalar, steps_of, lines_of, chain_of, chain_reading, declared_tensors};
+ghost use Rattle.program_file.specs.Chains.{and_scalar, steps_of, lines_of, chain_of, chain_reading};
 ghost use Rattle.program_file.specs.Refusals.{GivesProgram};
 
 use crate::copies::{copied_tensor, copied_tensors};
@@ -71,7 +71,8 @@ fn steps_of(
 
 /// The lines of the results.
 fn lines_of(alloc: Global, groups: &[Group]) -> Result<Nums, AllocError>
-    ensures { IfOk result (λ lines. lines ≡ lines_of groups.now) }
+    ensures lines { IfOk result (λ lines. lines ≡ lines_of groups.now) }
+    ensures small { IfOk result (All (λ line. line < 2 ^ 32)) }
 {
     let mut lines = Nums::new(alloc);
     for group in groups {
@@ -82,7 +83,8 @@ fn lines_of(alloc: Global, groups: &[Group]) -> Result<Nums, AllocError>
 
 /// The chain of a file's groups, unless a check refuses one of them.
 fn chain_of(alloc: Global, file: ChainFile) -> Result<Chain, ProgramFault>
-    ensures { GivesProgram result (chain_of file) }
+    ensures exact { GivesProgram result (chain_of file) }
+    ensures lines { IfOk result (λ c. All (λ line. line < 2 ^ 32) c.lines) }
 {
     let ChainFile { tensors, groups } = file;
     let lines = lines_of(alloc, groups.as_slice())?;
@@ -96,11 +98,12 @@ fn chain_of(alloc: Global, file: ChainFile) -> Result<Chain, ProgramFault>
 pub fn read_chain(alloc: Global, text: &[u8]) -> Result<Chain, ProgramFault>
     requires { length text.now ≤ FILE_MOST }
     // Each step is accepted, and reads the declared tensors and the earlier results that have dimensions.
-    ensures follow { IfOk result (λ c. StepsFollow (declared_tensors c.steps) c.steps) }
+    ensures follow { IfOk result (λ c. AreChained c.steps) }
     // There is a step for each group, one to eight of them.
     ensures some { IfOk result (λ c. 1 ≤ length c.steps) }
     ensures few { IfOk result (λ c. length c.steps ≤ 8) }
-    ensures lines { IfOk result (λ c. length c.lines ≡ length c.steps) }
+    ensures each_line { IfOk result (λ c. length c.lines ≡ length c.steps) }
+    ensures lines { IfOk result (λ c. All (λ line. line < 2 ^ 32) c.lines) }
     // It is the one that the text writes, and a refusal is the first fault.
     ensures exact { GivesProgram result (chain_reading text.now) }
 {
