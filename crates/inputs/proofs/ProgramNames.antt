@@ -1,5 +1,8 @@
--- The names of a program that is read.
-use Rattle.std.proofs.Common.{◌≡◌, ℕ, ◌+◌, List, [], ◌∷◌, ◌++◌, length, Bool, true, false, not, ◌&&◌, cond, Option, Some, None, Ok, refl, sym, ap, subst, ◌∙◌, inl, inr}
+-- The names of the first program of a chain that is read.
+use Rattle.std.proofs.Common.{◌≡◌, ℕ, ◌+◌, List, [], ◌∷◌, ◌++◌, length, Bool, true, false, not, ◌&&◌, cond, Option, Some, None, Ok}
+use Rattle.std.proofs.Common.{refl, sym, subst, ◌∙◌, inl, inr, slice_get}
+use Rattle.std.specs.Option.{IfSome}
+use Rattle.std.proofs.lemmas.Option.{IfSome_then}
 use Rattle.std.specs.List.{list_all}
 use Rattle.std.proofs.lemmas.Bool.{and_parts, and_from}
 use Rattle.std.proofs.lemmas.List.Folds.{list_all-append}
@@ -8,14 +11,14 @@ use Rattle.sam_text.specs.Lines.{lines}
 use Rattle.sam_text.specs.Words.{words}
 use Rattle.sam_text.specs.Names.{is_name}
 use Rattle.sam_model.specs.declared.tensors.Tensor.{Tensor}
-use Rattle.sam_model.specs.declared.program.Program.{Program}
+use Rattle.sam_model.specs.declared.program.Chain.{Chain}
 use Rattle.sam_model.specs.Accepted.{is_dimension, is_taken}
-use Rattle.program_file.specs.Refusals.{and_then}
 use Rattle.program_file.specs.Keywords.{tensor_word, result_word, starts, others}
 use Rattle.program_file.specs.Declarations.{is_shape, is_printable, tensor_with, scalar, tensor_of, result_of, declared}
-use Rattle.program_file.specs.Files.{result_declared, declarations_in, file_reading}
-use Rattle.program_file.specs.Programs.{bound_of, statement_checked, program_of, checked, program_reading}
-use Rattle.program_file.proofs.DeclaredLemmas.{then-ok, if-ok, ok-same, no_refusal, group-ok, group-result, parts-ok}
+use Rattle.program_file.specs.Files.{result_declared, declarations_in}
+use Rattle.program_file.specs.Chains.{chain_reading}
+use Rattle.program_file.proofs.DeclaredLemmas.{then-ok, if-ok, ok-same, no_refusal}
+use Rattle.program_file.proofs.StepLemmas.{chain-begins}
 use Rattle.inputs.specs.Programs.{HasNames}
 
 -- ---- a declaration
@@ -80,20 +83,14 @@ declarations-named past tensors (l ∷ ls) found h e = elim (if-ok (starts tenso
       subst F same (record { each = h; last = declared_result-named tensors l a.value a.was })
 ]
 
--- ---- a program
+-- ---- a chain
 
--- a program that passes the checks has the names of its file
-pub read-named : (text : List ℕ) (p : Program) → program_reading text ≡ Ok p → HasNames p
-read-named text p e =
-    let past = 1 + length (lines text) in
-    let ls = counted_lines 1 (lines text) in
-    let file = then-ok (file_reading text) checked p e in
-    let parts = parts-ok past ls file.value file.was in
-    let named = declarations-named past [] ls parts.declared refl parts.declared_in in
-    let first = parts.declared.0.1 in
-    let result = group-result past first parts.declared.1 parts.group.0 (group-ok past first parts.declared.1 parts.group parts.grouped) in
-    let last = subst (λ (t : Tensor). is_name t.name ≡ true) (sym result) named.last in
-    let bound = then-ok (bound_of file.value) (λ vars. and_then (statement_checked file.value vars) (λ _. Ok (program_of file.value vars))) p file.next in
-    let right = then-ok (statement_checked file.value bound.value) (λ _. Ok (program_of file.value bound.value)) p bound.next in
-    subst HasNames (ap (λ f. program_of f bound.value) parts.is ∙ ok-same (program_of file.value bound.value) p right.next)
-    (record { tensors = named.each; result = last })
+-- the first program of a chain that is read has the names that its file declares
+pub read-named : (text : List ℕ) (c : Chain) → chain_reading text ≡ Ok c → IfSome (slice_get c.steps 0) HasNames
+read-named text c e =
+    let b = chain-begins text c e in
+    let named = declarations-named (1 + length (lines text)) [] (counted_lines 1 (lines text)) b.declared refl b.declared_in in
+    IfSome_then (slice_get c.steps 0) b.first (λ p h. record {
+      tensors = subst (λ ts. are_named ts ≡ true) (sym h.0) named.each;
+      result = subst (λ (t : Tensor). is_name t.name ≡ true) (sym h.1) named.last;
+    })

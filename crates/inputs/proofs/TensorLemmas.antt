@@ -67,21 +67,21 @@ module _ (test : ℕ → Bool) (k : ℕ) (fails : test k ≡ false) where
   none_from a (suc n) low high =
       none_at a n low (λ less. none_from (a + 1) n (omega arith) (omega arith)) (test a) refl
 
-module _ (t : Tensor) (e : Entries) where
+module _ (name : List ℕ) (t : Tensor) (e : Entries) where
   abbrev few_at : ℕ → Bool
   few_at k = nat_le (length (stored_prefixes (stored_as t e) k)) POSITIONS_MOST
 
   abbrev chosen : Bool → Result Entries Fault
-  chosen b = if b then Ok e else Err (fault.Tensor t.file TooManyPositions 0)
+  chosen b = if b then Ok e else Err (fault.Tensor name TooManyPositions 0)
 
   pub may_store :
-      ((k : ℕ) → k ≤ length t.order → length (stored_prefixes (stored_as t e) k) ≤ POSITIONS_MOST) → storable t e ≡ Ok e
+      ((k : ℕ) → k ≤ length t.order → length (stored_prefixes (stored_as t e) k) ≤ POSITIONS_MOST) → storable name t e ≡ Ok e
   may_store few =
       ap chosen (all_from few_at 0 (suc (length t.order)) (λ k less. let here = few k (omega arith) in grind (arith, nat_tests, here)))
 
   pub may_not_store :
       (k : ℕ) → k ≤ length t.order → POSITIONS_MOST < length (stored_prefixes (stored_as t e) k) →
-      storable t e ≡ Err (fault.Tensor t.file TooManyPositions 0)
+      storable name t e ≡ Err (fault.Tensor name TooManyPositions 0)
   may_not_store k within many =
       let over : few_at k ≡ false = grind (arith, nat_tests, many) in
       ap chosen (none_from few_at k over 0 (suc (length t.order)) (omega arith) (omega arith))

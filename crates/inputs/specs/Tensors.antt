@@ -40,21 +40,21 @@ abbrev pub is_storable : Tensor → Entries → Bool
 is_storable t e =
     list_all (λ k. nat_le (length (stored_prefixes (stored_as t e) k)) POSITIONS_MOST) (below (suc (length t.order)))
 
--- the entries, where they may be stored
-abbrev pub storable : Tensor → Entries → Result Entries Fault
-storable t e = if is_storable t e then Ok e else Err (fault.Tensor t.file TooManyPositions 0)
+-- the entries, where they may be stored; a tensor is told by this name
+abbrev pub storable : List ℕ → Tensor → Entries → Result Entries Fault
+storable name t e = if is_storable t e then Ok e else Err (fault.Tensor name TooManyPositions 0)
 
 abbrev pub tensor_part : Tensor → Part Entries
-tensor_part t = followed (reads t.file) (λ text. followed (gives (entries_in t text)) (λ e. gives (storable t e)))
+tensor_part t = followed (reads t.file) (λ text. followed (gives (entries_in t text)) (λ e. gives (storable t.file t e)))
 
 -- ---- as they are stored
 
--- the entries' storage, where they may be stored
-abbrev pub storage_part : Tensor → Entries → Part Ranked
-storage_part t e = followed (gives (storable t e)) (λ kept. gives (Ok (ranked (stored_as t kept))))
+-- the entries' storage, where they may be stored; a tensor is told by this name
+abbrev pub storage_part : List ℕ → Tensor → Entries → Part Ranked
+storage_part name t e = followed (gives (storable name t e)) (λ kept. gives (Ok (ranked (stored_as t kept))))
 
 abbrev pub stored_part : Tensor → Part Ranked
-stored_part t = followed (reads t.file) (λ text. followed (gives (entries_in t text)) (storage_part t))
+stored_part t = followed (reads t.file) (λ text. followed (gives (entries_in t text)) (storage_part t.file t))
 
 -- tensors as they are stored from a list of entries for each
 pub record AreStored (tensors : List Tensor) (entries : List Entries) (stored : List Ranked) : Type 0 where

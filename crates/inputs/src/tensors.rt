@@ -18,11 +18,11 @@ use sam_model::{Entries, Tensor};
 use std::alloc::Global;
 use tns_io::{TnsFault, read_tns};
 
-/// A tensor's file is refused for this reason, at this line.
-fn refused(alloc: Global, t: &Tensor, kind: TnsKind, line: u32) -> Fault
-    ensures { IsFault (Fault.Tensor t.now.file kind line) result }
+/// The tensor that is told by a name is refused for this reason, at this line.
+fn refused(alloc: Global, told: &Name, kind: TnsKind, line: u32) -> Fault
+    ensures { IsFault (Fault.Tensor told.now kind line) result }
 {
-    match Name::from_slice(alloc, t.file.as_bytes()) {
+    match Name::from_slice(alloc, told.as_bytes()) {
         Ok(name) => Fault::Tensor { name, kind, line },
         Err(_) => Fault::OutOfMemory,
     }
@@ -39,27 +39,32 @@ fn spelled_entries(alloc: Global, text: Option<Name>, t: &Tensor) -> Result<Entr
     ensures comes { ComesAlways (gives (entries_in t.now text)) result }
 {
     let Some(text) = text else {
-        return Err(refused(alloc, t, TnsKind::FileTooLong, 0));
+        return Err(refused(alloc, &t.file, TnsKind::FileTooLong, 0));
     };
     match read_tns(alloc, text.as_bytes(), &t.dims) {
         Ok(entries) => Ok(entries),
-        Err(TnsFault::Refused { kind, line }) => Err(refused(alloc, t, kind, line)),
+        Err(TnsFault::Refused { kind, line }) => Err(refused(alloc, &t.file, kind, line)),
         Err(TnsFault::OutOfMemory) => Err(Fault::OutOfMemory),
     }
 }
 
-/// Stores a tensor's entries.
-fn storage(alloc: Global, entries: &Entries, t: &Tensor) -> Result<Storage, Fault>
+/// Stores a tensor's entries. Where more prefixes of one length would be stored than may be, the tensor is refused by this name.
+pub fn storage(alloc: Global, entries: &Entries, t: &Tensor, told: &Name) -> Result<Storage, Fault>
     requires tensor { is_well_formed t.now ≡ true }
     requires arity { entries.now.arity ≡ length t.now.dims }
     requires whole { length entries.now.coords ≡ entries.now.arity * length entries.now.values }
     requires inside { list_all (λ entry. within t.now.dims entry.0)
         (entry_list entries.now.arity entries.now.coords entries.now.values) ≡ true }
-    ensures { ComesAlways (storage_part t.now entries.now) result }
+    ensures { ComesAlways (storage_part told.now t.now entries.now) result }
 {
     match Storage::build(alloc, entries, t) {
         Ok(storage) => Ok(storage),
-        Err(BuildFault::TooManyPositions) => Err(refused(alloc, t, TnsKind::TooManyPositions, 0)),
+        Err(BuildFault::TooManyPositions) => Err(refused(
+            alloc,
+            told,
+            TnsKind::TooManyPositions,
+            0,
+        )),
         Err(BuildFault::OutOfMemory) => Err(Fault::OutOfMemory),
     }
 }
@@ -68,11 +73,11 @@ fn spelled_storage(alloc: Global, text: Option<Name>, t: &Tensor) -> Result<Stor
     requires short { IfSome text (λ bytes. length bytes ≤ FILE_MOST) }
     requires tensor { is_well_formed t.now ≡ true }
     requires modes { length t.now.dims ≤ VARIABLES_MOST }
-    ensures { ComesAlways (followed (gives (entries_in t.now text)) (storage_part t.now)) result }
+    ensures { ComesAlways (followed (gives (entries_in t.now text)) (storage_part t.now.file t.now)) result }
 {
     match spelled_entries(alloc, text, t) {
         Err(fault) => Err(fault),
-        Ok(entries) => storage(alloc, &entries, t),
+        Ok(entries) => storage(alloc, &entries, t, &t.file),
     }
 }
 

@@ -5,9 +5,9 @@ use Rattle.inputs.proofs.tensors.spelled_storage.Goals as goal
 
 pub returns-in-Err : goal.returns-in-Err
 returns-in-Err c =
-    always_first (gives (entries_in c.args.t.now c.args.text)) (storage_part c.args.t.now) c.in-Err.fault c.in-Err.ensures.comes
+    always_first (gives (entries_in c.args.t.now c.args.text)) (storage_part c.args.t.now.file c.args.t.now) c.in-Err.fault c.in-Err.ensures.comes
 
 pub returns-in-Ok : goal.returns-in-Ok
 returns-in-Ok c =
-    always_then (gives (entries_in c.args.t.now c.args.text)) (storage_part c.args.t.now) c.in-Ok.entries c.storage.result
+    always_then (gives (entries_in c.args.t.now c.args.text)) (storage_part c.args.t.now.file c.args.t.now) c.in-Ok.entries c.storage.result
     c.in-Ok.ensures.comes c.storage.ensures
