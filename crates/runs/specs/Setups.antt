@@ -1,5 +1,6 @@
 -- What the options come to for a graph: the capacities of its channels, and the schedule that is played first.
-use Rattle.std.specs.Prelude.{◌<◌, ℕ, List, [], Option, Some, None, Ok, All, length}
+use Rattle.std.specs.Prelude.{◌<◌, ℕ, List, [], Option, Some, None, Result, Ok, All, length}
+use Rattle.sam_base.specs.declared.faults.Fault.{Fault}
 use Rattle.graph.specs.declared.graphs.Graph.{Graph}
 use Rattle.stepper.specs.Capacity.{CapacitiesFor}
 use Rattle.parts.specs.Parts.{Part, gives, followed, reads}
@@ -23,8 +24,10 @@ with_schedule blocks name each =
     followed (schedule_part blocks name) (λ schedule.
     gives (Ok (record { capacities = record { each = each }; schedule = schedule })))
 
+-- the capacities that the options give the channels of a graph
+abbrev pub given_to : Graph → Options → Result (List (Option ℕ)) Fault
+given_to g options = capacities_of (length g.channels) options.capacity options.own
+
 -- first the capacities, then the schedule
 abbrev pub setup_part : Graph → Options → Part Setup
-setup_part g options =
-    followed (gives (capacities_of (length g.channels) options.capacity options.own))
-    (with_schedule (length g.blocks) options.schedule)
+setup_part g options = followed (gives (given_to g options)) (with_schedule (length g.blocks) options.schedule)

@@ -15,5 +15,5 @@ pub use laws::{
 };
 pub use results::{print_result, program_result};
 pub use running::run_program;
-pub use setup::{Setup, run_setup};
+pub use setup::{Setup, given_capacities, run_setup};
 pub use sizing::size_program;

@@ -6,8 +6,7 @@ ghost use Rattle.stepper.specs.Capacity.{CapacitiesFor};
 ghost use Rattle.parts.specs.Parts.{gives};
 ghost use Rattle.parts.specs.Answers.{Comes, ComesAlways};
 ghost use Rattle.words.specs.Asked.{HasCapacities};
-ghost use Rattle.runs.specs.Capacities.{capacities_of};
-ghost use Rattle.runs.specs.Setups.{SetupFits, schedule_part, setup_part};
+ghost use Rattle.runs.specs.Setups.{SetupFits, given_to, schedule_part, setup_part};
 
 use crate::capacities::channel_capacities;
 use graph::Graph;
@@ -26,15 +25,16 @@ pub struct Setup {
     pub schedule: Nums,
 }
 
-/// The capacities that the options give the channels of a graph.
-fn given_capacities(
+/// The capacities that the options give the channels of a graph. `NoSuchChannel` tells the first channel that they name and the graph
+/// lacks.
+pub fn given_capacities(
     alloc: Global,
     g: &Graph,
     options: &Options,
 ) -> Result<Items<Option<u32>>, Fault>
     requires { HasCapacities options.now }
     ensures fit { IfOk result (CapacitiesFor (length g.now.channels)) }
-    ensures comes { ComesAlways (gives (capacities_of (length g.now.channels) options.now.capacity options.now.own)) result }
+    ensures comes { ComesAlways (gives (given_to g.now options.now)) result }
 {
     channel_capacities(
         alloc,

@@ -3,14 +3,13 @@ use Rattle.std.specs.Prelude.{ℕ, List, codes, Option, Some, None, Result, Ok, 
 use Rattle.sam_base.specs.declared.faults.Fault.{Fault}
 use Rattle.sam_base.specs.declared.faults.Fault.TheVariants.{Usage}
 use Rattle.sam_model.specs.declared.program.Program.{Program}
-use Rattle.sam_model.specs.declared.tensors.Entries.{Entries}
-use Rattle.sam_model.specs.ResultText.{listing_text}
+use Rattle.sam_model.specs.Chains.{declared_tensors}
 use Rattle.graph.specs.declared.graphs.Graph.{Graph}
 use Rattle.graph_json.specs.Spelled.{graph_text}
 use Rattle.traces.specs.Traces.{streams_of, moment_of}
 use Rattle.large.specs.Summaries.{large_text}
 use Rattle.parts.specs.Parts.{Part, gives, followed, each_part}
-use Rattle.inputs.specs.Programs.{program_part}
+use Rattle.inputs.specs.Programs.{chain_part, program_part}
 use Rattle.inputs.specs.Tensors.{tensor_part}
 use Rattle.words.specs.declared.asking.Lowering.{Lowering}
 use Rattle.words.specs.declared.asking.Command.{Command}
@@ -19,14 +18,10 @@ use Rattle.words.specs.declared.asking.Options.{Options}
 use Rattle.words.specs.Asked.{asked_of}
 use Rattle.runs.specs.declared.setup.Setup.{Setup}
 use Rattle.runs.specs.Setups.{setup_part}
-use Rattle.runs.specs.Results.{Entry, result_of}
-use Rattle.runs.specs.Runs.{run_part}
 use Rattle.runs.specs.Sizes.{size_part}
-use Rattle.thread_runs.specs.ThreadsFor.{threads_for}
 use Rattle.verdicts.specs.Verifying.{verification_part}
 use Rattle.sam_cmd.specs.Chosen.{chosen}
-use Rattle.sam_cmd.specs.declared.running.Wanted.{Wanted}
-use Rattle.sam_cmd.specs.declared.running.Wanted.TheVariants as wanted
+use Rattle.sam_cmd.specs.Steps.{options_part, steps_part, under_options, by_threads, under_which, few_blocks}
 
 -- the command that is asked; words that ask for none are answered by the usage
 abbrev pub asked_or_usage : Option Command → Result Command Fault
@@ -36,7 +31,7 @@ asked_or_usage (Some command) = Ok command
 -- ---- the commands
 
 abbrev pub check_part : List ℕ → Part (List ℕ)
-check_part program = followed (program_part program) (λ p. gives (Ok (codes "accepted\n")))
+check_part program = followed (chain_part program) (λ c. gives (Ok (codes "accepted\n")))
 
 abbrev pub lower_part : List ℕ → Lowering → Part (List ℕ)
 lower_part program lowering = followed (program_part program) (λ p. gives (Ok (graph_text p (chosen lowering p))))
@@ -47,31 +42,37 @@ streams_part program lowering =
     followed (each_part tensor_part p.tensors) (λ entries.
     gives (Ok (streams_of p (chosen lowering p) entries))))
 
--- the text of a program's result
-abbrev pub printed : Program → List Entry → Part (List ℕ)
-printed p listed = gives (Ok (listing_text p.result.order listed))
+-- what was sent on each channel of a program's graph when the schedule of a setup ends
+abbrev pub sent_part : Program → Graph → Setup → Part (List ℕ)
+sent_part p g setup =
+    followed (each_part tensor_part p.tensors) (λ entries.
+    gives (Ok (moment_of p g entries setup.capacities.each setup.schedule)))
 
--- what a statement denotes over these entries, as text
-abbrev pub denoted_part : Program → List Entries → Part (List ℕ)
-denoted_part p entries = followed (gives (result_of p entries)) (printed p)
-
--- what is wanted of a program's graph, under a setup and over entries
-abbrev pub wanted_part : Wanted → Program → Graph → Setup → List Entries → Part (List ℕ)
-wanted_part wanted.Result p g setup entries = followed (run_part p g entries setup.capacities.each) (printed p)
-wanted_part wanted.Moment p g setup entries = gives (Ok (moment_of p g entries setup.capacities.each setup.schedule))
-
-abbrev pub running_part : Wanted → List ℕ → Options → Part (List ℕ)
-running_part wanted program options =
+abbrev pub moment_part : List ℕ → Options → Part (List ℕ)
+moment_part program options =
     followed (program_part program) (λ p.
-    followed (setup_part (chosen options.lowering p) options) (λ setup.
-    followed (each_part tensor_part p.tensors) (wanted_part wanted p (chosen options.lowering p) setup)))
+    followed (setup_part (chosen options.lowering p) options) (sent_part p (chosen options.lowering p)))
+
+-- Of several statements each under its capacities, over the results of those before it.
+abbrev pub stepped_part : Options → List Program → Part (List ℕ)
+stepped_part options steps =
+    followed (options_part options steps) (λ schedule.
+    followed (each_part tensor_part (declared_tensors steps))
+    (steps_part (λ p. under_options options p (chosen options.lowering p)) steps))
+
+abbrev pub step_part : List ℕ → Options → Part (List ℕ)
+step_part program options =
+    followed (chain_part program) (λ c.
+    followed (gives (under_which options c)) (stepped_part options))
 
 -- The tensor, whatever the capacity of the wires: the work of threads has no other text.
+abbrev pub threaded_part : Lowering → List Program → Part (List ℕ)
+threaded_part lowering steps =
+    followed (gives (few_blocks lowering steps)) (λ few.
+    followed (each_part tensor_part (declared_tensors steps)) (steps_part by_threads steps))
+
 abbrev pub threads_part : List ℕ → Lowering → Part (List ℕ)
-threads_part program lowering =
-    followed (program_part program) (λ p.
-    followed (gives (threads_for (chosen lowering p))) (λ g.
-    followed (each_part tensor_part p.tensors) (denoted_part p)))
+threads_part program lowering = followed (chain_part program) (λ c. threaded_part lowering c.steps)
 
 -- The least capacity of the program's graph.
 abbrev pub sizing_part : List ℕ → Lowering → Part (List ℕ)
@@ -91,8 +92,8 @@ abbrev pub text_part : Command → Part (List ℕ)
 text_part (Check program) = check_part program
 text_part (Lower program lowering) = lower_part program lowering
 text_part (Streams program lowering) = streams_part program lowering
-text_part (Step program options) = running_part wanted.Result program options
-text_part (Moment program options) = running_part wanted.Moment program options
+text_part (Step program options) = step_part program options
+text_part (Moment program options) = moment_part program options
 text_part (Run program lowering capacity) = threads_part program lowering
 text_part (Size program lowering) = sizing_part program lowering
 text_part (Verify program graph) = verify_part program graph

@@ -9,8 +9,9 @@ ghost use Rattle.sam_cmd.specs.Commands.{serial_text_part, serial_part};
 use crate::asked::asked_command;
 use crate::check::check;
 use crate::lower::lower;
-use crate::running::{Wanted, running};
+use crate::moment::moment;
 use crate::size::size;
+use crate::step::step;
 use crate::streams::streams;
 use crate::verify::verify;
 use crate::workload::large;
@@ -28,12 +29,8 @@ fn text<F: Files>(alloc: Global, files: &mut F, command: &Command) -> Result<Nam
         Command::Check { program } => check(alloc, files, program),
         Command::Lower { program, lowering } => lower(alloc, files, program, *lowering),
         Command::Streams { program, lowering } => streams(alloc, files, program, *lowering),
-        Command::Step { program, options } => {
-            running(alloc, files, Wanted::Result, program, options)
-        }
-        Command::Moment { program, options } => {
-            running(alloc, files, Wanted::Moment, program, options)
-        }
+        Command::Step { program, options } => step(alloc, files, program, options),
+        Command::Moment { program, options } => moment(alloc, files, program, options),
         Command::Run { .. } => Err(Fault::Usage),
         Command::Size { program, lowering } => size(alloc, files, program, *lowering),
         Command::Verify { program, graph } => verify(alloc, files, program, graph),

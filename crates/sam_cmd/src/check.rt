@@ -6,7 +6,7 @@ ghost use Rattle.parts.specs.Parts.{gives};
 ghost use Rattle.parts.specs.Answers.{Comes, ComesAlways};
 ghost use Rattle.sam_cmd.specs.Commands.{check_part};
 
-use inputs::program;
+use inputs::chain;
 use sam_base::{Fault, Name};
 use sam_io::Files;
 use std::alloc::Global;
@@ -21,12 +21,12 @@ fn accepted_text(alloc: Global) -> Result<Name, Fault>
     }
 }
 
-/// Reads the program, and answers that it is accepted.
+/// Reads the program file, and answers that each statement of it is accepted.
 pub fn check<F: Files>(alloc: Global, files: &mut F, name: &Name) -> Result<Name, Fault>
     ensures keeps { KeepsFiles F.Files files.old files.new }
     ensures comes { Comes (check_part name.now) (files_span F.Files files.old files.new) result }
 {
-    match program(alloc, files, name) {
+    match chain(alloc, files, name) {
         Err(fault) => Err(fault),
         Ok(_) => accepted_text(alloc),
     }

@@ -11,13 +11,15 @@ ghost use Rattle.sam_cmd.specs.Answers.{Answered};
 
 mod answer;
 mod asked;
+mod chain;
 mod check;
 mod chosen;
 mod laws;
 mod lower;
+mod moment;
 mod report;
-mod running;
 mod size;
+mod step;
 mod streams;
 mod threads;
 mod verify;
@@ -27,7 +29,8 @@ use answer::answer;
 use asked::asked_command;
 use block_threads::Gate;
 pub use laws::{
-    plain_graphs_are_verified, run_completes, size_completes, step_completes, verify_completes,
+    plain_graphs_are_verified, run_completes, run_denotes, size_completes, step_completes,
+    step_denotes, verify_completes,
 };
 use report::give;
 use sam_io::{Files, Sink};
@@ -40,11 +43,12 @@ use words::Command;
 /// Runs a command, and answers its exit status.
 ///
 /// - `check FILE` reads a program file, and writes `accepted` and a newline.
-/// - `lower FILE` reads it too, and writes the graph that the program is lowered to, as JSON.
+/// - `lower FILE` reads a program file of one statement, and writes the graph that the program is lowered to, as JSON.
 /// - `streams FILE` reads the files of all its tensors too, runs the graph over them, and writes the whole stream of each
 ///   channel.
 /// - `step FILE` writes the tensor that the statement denotes: the sum of products over all index tuples, modulo 2^64, at the
-///   coordinates of its pattern. Its options are `--capacity n`, how many tokens each channel may hold, `--of c=n,c=n`, the
+///   coordinates of its pattern. Of several statements each is computed over the tensors of the files and the results of those
+///   before it, and the last one's tensor is written. Its options are `--capacity n`, how many tokens each channel may hold, `--of c=n,c=n`, the
 ///   same of single channels, and `--schedule FILE`, whose turn it is before the run goes on by itself. A run in which no block
 ///   can move and one isn't finished answers the blocks that wait.
 /// - `moment FILE` reads what `step` reads, with the same options, and writes what was sent on each channel when the schedule
@@ -58,6 +62,9 @@ use words::Command;
 ///   computes the tensor of the program, whoever made it. Else it answers the first rule that the graph breaks, and where.
 /// - `large N` makes the workload of that number, runs its graph, and writes how many entries the result has, the sum of their
 ///   values and the number of events.
+///
+/// `check`, `step` and `run` take a file of several statements, `step` with no other option than `--capacity`, which is then that of
+/// each graph; where another command or option speaks of one graph, a second statement is refused once the file is accepted.
 ///
 /// Every command but `check`, `verify` and `large` takes the flag `--fused`: the graph is the one whose terms are united at the scanners, for the same
 /// tensor.

@@ -1,24 +1,26 @@
-//! `run`: a program's graph with a thread for every block.
+//! `run`: the graph of each statement with a thread for every block.
 
-ghost use Rattle.std.specs.Prelude.{◌≡◌, ◌≤◌, List, true, Ok, IfOk, IfSome};
-ghost use Rattle.sam_base.specs.declared.TheConstants.{CAPACITY_MOST};
-ghost use Rattle.sam_io.specs.Spans.{KeepsFiles, files_span};
+ghost use Rattle.std.specs.Prelude.{◌≡◌, ◌≤◌, ◌∷◌, List, true, length, IfOk, IfSome};
+ghost use Rattle.sam_base.specs.Each.{Each};
+ghost use Rattle.sam_io.specs.Spans.{files_span};
 ghost use Rattle.sam_model.specs.declared.tensors.Entries.{Entries};
+ghost use Rattle.sam_model.specs.Chains.{AreChained};
 ghost use Rattle.sam_model.specs.Program.{accepted};
-ghost use Rattle.custard_lower.specs.Lowered.{Computes};
-ghost use Rattle.parts.specs.Parts.{gives, followed, each_part};
+ghost use Rattle.parts.specs.Parts.{gives};
 ghost use Rattle.parts.specs.Answers.{Comes, ComesAlways};
-ghost use Rattle.inputs.specs.Tensors.{tensor_part};
+ghost use Rattle.inputs.specs.Tensors.{AreStored};
 ghost use Rattle.words.specs.Asked.{IsCapacityGiven};
 ghost use Rattle.thread_runs.specs.ThreadsFor.{threads_for};
-ghost use Rattle.sam_cmd.specs.Chosen.{chosen};
-ghost use Rattle.sam_cmd.specs.Commands.{denoted_part, threads_part};
+ghost use Rattle.sam_cmd.specs.Chosen.{IsChosen, chosen};
+ghost use Rattle.sam_cmd.specs.Steps.{steps_part, by_threads, few_blocks};
+ghost use Rattle.sam_cmd.specs.Onwards.{IsReady};
+ghost use Rattle.sam_cmd.specs.Commands.{threaded_part, threads_part};
 
+use crate::chain::{Onwards, Step, go_on};
 use crate::chosen::chosen_graph;
 use block_threads::Gate;
 use graph::Graph;
-use inputs::{program, storages};
-use runs::print_result;
+use inputs::{chain, storages};
 use sam_base::{Fault, Name};
 use sam_io::Files;
 use sam_model::Program;
@@ -28,10 +30,43 @@ use std::thread::Threads;
 use thread_runs::{RUN_CAPACITY, run_threads, threads_for};
 use words::Lowering;
 
+/// Runs a statement's graph with a thread for every block, and then those of the statements behind it.
+fn run_on<G: Gate + Sync, R: Threads + Wait + Sync>(
+    rt: &R,
+    alloc: Global,
+    step: Step<'_>,
+    lowering: Lowering,
+    capacity: u32,
+    gate: &G,
+) -> Result<Name, Fault>
+    requires ready { IsReady lowering step }
+    requires capacity { IsCapacityGiven capacity }
+    ensures { (entries : List Entries) → AreStored step.entry.program.now.tensors entries step.entry.storages →
+        ComesAlways (steps_part by_threads (step.entry.program.now ∷ step.entry.later.now) entries) result }
+{
+    let storages = step.storages.as_slice();
+    match run_threads(
+        rt,
+        alloc,
+        step.program,
+        &step.graph,
+        storages,
+        capacity,
+        gate,
+    ) {
+        Err(fault) => Err(fault),
+        Ok(written) => match go_on(alloc, lowering, step, written) {
+            Err(fault) => Err(fault),
+            Ok(Onwards::Text(text)) => Ok(text),
+            Ok(Onwards::Next(next)) => run_on(rt, alloc, next, lowering, capacity, gate),
+        },
+    }
+}
+
 /// The graph of a program, where it may have a thread for every block.
 fn threaded_graph(alloc: Global, p: &Program, lowering: Lowering) -> Result<Graph, Fault>
     requires { accepted p.now ≡ true }
-    ensures computes { IfOk result (Computes p.now) }
+    ensures chosen { IfOk result (IsChosen lowering p.now) }
     ensures comes { ComesAlways (gives (threads_for (chosen lowering p.now))) result }
 {
     match chosen_graph(alloc, lowering, p) {
@@ -40,57 +75,62 @@ fn threaded_graph(alloc: Global, p: &Program, lowering: Lowering) -> Result<Grap
     }
 }
 
-/// Reads the tensors, and runs the graph over them.
-fn tensors_text<F: Files, G: Gate + Sync, R: Threads + Wait + Sync>(
-    rt: &R,
-    alloc: Global,
-    files: &mut F,
-    p: &Program,
-    g: &Graph,
-    capacity: u32,
-    gate: &G,
-) -> Result<Name, Fault>
-    requires accepted { accepted p.now ≡ true }
-    requires computes { Computes p.now g.now }
-    requires capacity { (1 ≤ capacity) × (capacity ≤ CAPACITY_MOST) }
-    ensures keeps { KeepsFiles F.Files files.old files.new }
-    ensures comes { Comes (followed (each_part tensor_part p.now.tensors) (denoted_part p.now))
-        (files_span F.Files files.old files.new) result }
+/// Whether the graph of each program may have a thread for every block; the first that may not is refused.
+fn check_blocks(alloc: Global, steps: &[Program], lowering: Lowering) -> Result<(), Fault>
+    requires { Each (λ p. accepted p ≡ true) steps.now }
+    ensures { ComesAlways (gives (few_blocks lowering steps.now)) result }
 {
-    match storages(alloc, files, p.tensors.as_slice()) {
+    let Some((program, later)) = steps.split_first() else {
+        return Ok(());
+    };
+    match threaded_graph(alloc, program, lowering) {
         Err(fault) => Err(fault),
-        Ok(storages) => match run_threads(rt, alloc, p, g, storages.as_slice(), capacity, gate) {
-            Err(fault) => Err(fault),
-            Ok(result) => print_result(alloc, &p.result, &result),
-        },
+        Ok(_) => check_blocks(alloc, later, lowering),
     }
 }
 
-/// Lowers the program, reads the tensors, and runs the graph over them.
-fn program_text<F: Files, G: Gate + Sync, R: Threads + Wait + Sync>(
+/// Lowers the programs, reads the tensors, and runs all. There is one program at least.
+fn run_steps<F: Files, G: Gate + Sync, R: Threads + Wait + Sync>(
     rt: &R,
     alloc: Global,
     files: &mut F,
-    p: &Program,
+    steps: &[Program],
     lowering: Lowering,
     capacity: u32,
     gate: &G,
 ) -> Result<Name, Fault>
-    requires accepted { accepted p.now ≡ true }
-    requires capacity { (1 ≤ capacity) × (capacity ≤ CAPACITY_MOST) }
-    ensures keeps { KeepsFiles F.Files files.old files.new }
-    ensures comes { Comes (followed (gives (threads_for (chosen lowering p.now))) (λ g.
-        followed (each_part tensor_part p.now.tensors) (denoted_part p.now)))
-        (files_span F.Files files.old files.new) result }
+    requires some { 1 ≤ length steps.now }
+    requires chained { AreChained steps.now }
+    requires capacity { IsCapacityGiven capacity }
+    ensures { Comes (threaded_part lowering steps.now) (files_span F.Files files.old files.new) result }
 {
-    match threaded_graph(alloc, p, lowering) {
+    let Some((program, later)) = steps.split_first() else {
+        unreachable!();
+    };
+    let graph = match threaded_graph(alloc, program, lowering) {
+        Ok(graph) => graph,
+        Err(fault) => return Err(fault),
+    };
+    match check_blocks(alloc, later, lowering) {
+        Ok(()) => {}
+        Err(fault) => return Err(fault),
+    }
+    match storages(alloc, files, program.tensors.as_slice()) {
         Err(fault) => Err(fault),
-        Ok(graph) => tensors_text(rt, alloc, files, p, &graph, capacity, gate),
+        Ok(storages) => {
+            let step = Step {
+                program,
+                graph,
+                storages,
+                later,
+            };
+            run_on(rt, alloc, step, lowering, capacity, gate)
+        }
     }
 }
 
-/// Reads the program and the tensors, and answers the tensor that the program denotes, computed by threads. The capacity of
-/// every channel is `RUN_CAPACITY` where none is given.
+/// Reads the program file and the tensors, and answers the tensor that the last statement denotes, computed by threads. The capacity
+/// of every channel is `RUN_CAPACITY` where none is given.
 pub fn run<F: Files, G: Gate + Sync, R: Threads + Wait + Sync>(
     rt: &R,
     alloc: Global,
@@ -103,11 +143,12 @@ pub fn run<F: Files, G: Gate + Sync, R: Threads + Wait + Sync>(
     requires { IfSome capacity IsCapacityGiven }
     ensures { Comes (threads_part name.now lowering) (files_span F.Files files.old files.new) result }
 {
-    match program(alloc, files, name) {
+    match chain(alloc, files, name) {
         Err(fault) => Err(fault),
-        Ok(program) => {
+        Ok(chain) => {
             let capacity = capacity.unwrap_or(RUN_CAPACITY);
-            program_text(rt, alloc, files, &program, lowering, capacity, gate)
+            let steps = chain.steps.as_slice();
+            run_steps(rt, alloc, files, steps, lowering, capacity, gate)
         }
     }
 }

@@ -19,7 +19,7 @@ program_result-requires-clause-of c =
     let storages = c.args.storages.now in
     let stored = c.requires.stored in
     let left = rw c.in-Ok-Listing.field-0-is at c.in-Ok-Listing.ensures in
-    let written = left.written ∙ ap (written_listing storages g) c.len.ensures in
+    let written = left.written ∙ ap (written_listing storages g) c.len-levels.ensures in
     subst (λ w. IsOf p.result w) (sym written) (written-is-of p g c.requires.computes stored.0 storages stored.1)
 
 pub program_result-requires-clause-found : goal.program_result-requires-clause-found
@@ -29,13 +29,13 @@ program_result-requires-clause-found c =
     let storages = c.args.storages.now in
     let stored = c.requires.stored in
     let left = rw c.in-Ok-Listing.field-0-is at c.in-Ok-Listing.ensures in
-    let written = left.written ∙ ap (written_listing storages g) c.len.ensures in
+    let written = left.written ∙ ap (written_listing storages g) c.len-levels.ensures in
     (stored.0, ap listing written ∙ written-found p g c.requires.computes stored.0 storages stored.1 c.requires.accepted)
 
 pub returns-in-Ok-Waits-clause-runs : goal.returns-in-Ok-Waits-clause-runs
 returns-in-Ok-Waits-clause-runs c = λ es are.
     let left = rw c.in-Ok-Waits.field-0-is at c.in-Ok-Waits.ensures in
-    inl (stalls_with c.args.p.now c.args.g.now c.requires.computes es c.args.storages.now are c.args.setup.now.capacities.each c.in-Ok-Waits.list left)
+    inl (stalls_with c.args.p.now c.args.g.now c.requires.computes es c.args.storages.now are c.args.capacities.now.each c.in-Ok-Waits.list left)
 
 pub returns-in-Ok-Listing-clause-runs : goal.returns-in-Ok-Listing-clause-runs
 returns-in-Ok-Listing-clause-runs c = λ es are.
@@ -43,10 +43,10 @@ returns-in-Ok-Listing-clause-runs c = λ es are.
     let g = c.args.g.now in
     let storages = c.args.storages.now in
     let left = rw c.in-Ok-Listing.field-0-is at c.in-Ok-Listing.ensures in
-    let written = left.written ∙ ap (written_listing storages g) c.len.ensures in
+    let written = left.written ∙ ap (written_listing storages g) c.len-levels.ensures in
     let found = ap listing written ∙ written-found p g c.requires.computes es storages are c.requires.accepted in
     elim (c.program_result.ensures.listed es found) [
-      | inl is ↦ inl (finishes_with p g c.requires.computes es storages are c.args.setup.now.capacities.each c.len.result
+      | inl is ↦ inl (finishes_with p g c.requires.computes es storages are c.args.capacities.now.each c.len-levels.result
           c.in-Ok-Listing.written (as_listed c.program_result.result) left is)
       | inr none ↦ inr none
     ]

@@ -1,6 +1,6 @@
 use Rattle.sam_io.specs.Spans.{files_span}
 use Rattle.parts.specs.Parts.{followed, each_part}
-use Rattle.parts.proofs.ChainLemmas.{comes_next, rest_of}
+use Rattle.parts.proofs.ChainLemmas.{comes_first, comes_next, rest_of}
 use Rattle.inputs.specs.Programs.{program_part}
 use Rattle.inputs.specs.Tensors.{tensor_part}
 use Rattle.runs.specs.Sizes.{size_part}
@@ -15,3 +15,9 @@ returns-in-Ok-clause-comes g c =
     comes_next (program_part c.args.name.now) (λ p. followed (each_part tensor_part p.tensors) (size_part p (chosen c.args.lowering p)))
     (files_span g.F.Files old new) (files_span g.F.Files mid new) (rest_of g.F.Files old mid new c.in-Ok.ensures.keeps)
     c.in-Ok.program c.program_size.result c.in-Ok.ensures.comes c.program_size.ensures.comes
+
+pub returns-in-Err-clause-comes : goal.returns-in-Err-clause-comes
+returns-in-Err-clause-comes g c =
+    comes_first (program_part c.args.name.now)
+    (λ p. followed (each_part tensor_part p.tensors) (size_part p (chosen c.args.lowering p)))
+    (files_span g.F.Files c.args.files.now c.program.new.files) c.in-Err.fault c.in-Err.ensures.comes

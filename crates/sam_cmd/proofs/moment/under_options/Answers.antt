@@ -2,15 +2,13 @@ use Rattle.std.proofs.Common.{subst}
 use Rattle.std.specs.Prelude.{Ok, Err}
 use Rattle.sam_io.specs.Spans.{files_span}
 use Rattle.graph.specs.declared.graphs.Graph.{Graph}
-use Rattle.parts.specs.Parts.{followed, each_part}
 use Rattle.parts.specs.Answers.{Comes}
 use Rattle.parts.proofs.ChainLemmas.{comes_first, comes_next, rest_of}
-use Rattle.inputs.specs.Tensors.{tensor_part}
 use Rattle.runs.specs.declared.setup.Setup.{Setup}
 use Rattle.runs.specs.Setups.{setup_part}
 use Rattle.sam_cmd.specs.Chosen.{chosen}
-use Rattle.sam_cmd.specs.Commands.{wanted_part}
-use Rattle.sam_cmd.proofs.running.under_options.Goals as goal
+use Rattle.sam_cmd.specs.Commands.{sent_part}
+use Rattle.sam_cmd.proofs.moment.under_options.Goals as goal
 
 pub returns-in-Err-clause-comes : goal.returns-in-Err-clause-comes
 returns-in-Err-clause-comes g c =
@@ -18,8 +16,7 @@ returns-in-Err-clause-comes g c =
     let options = c.args.options.now in
     let chosen_graph = chosen options.lowering p in
     let files = files_span g.F.Files c.args.files.now c.run_setup.new.files in
-    comes_first (setup_part chosen_graph options)
-    (λ setup. followed (each_part tensor_part p.tensors) (wanted_part c.args.wanted p chosen_graph setup)) files c.in-Err.fault
+    comes_first (setup_part chosen_graph options) (sent_part p chosen_graph) files c.in-Err.fault
     (subst (λ (graph : Graph). Comes (setup_part graph options) files (Err c.in-Err.fault)) c.in-Ok.ensures.is_chosen c.in-Err.ensures.comes)
 
 pub returns-clause-comes : goal.returns-clause-comes
@@ -35,11 +32,8 @@ returns-clause-comes g c =
     subst (λ (graph : Graph). setup_part graph options (g.F.Files.told old) (Ok setup)) c.in-Ok.ensures.is_chosen
     c.in-Ok-run_setup.ensures.comes in
     let over =
-    subst (λ (graph : Graph).
-    Comes (followed (each_part tensor_part p.tensors) (wanted_part c.args.wanted p graph setup)) (files_span g.F.Files mid new)
-    c.over_tensors.result)
+    subst (λ (graph : Graph). Comes (sent_part p graph setup) (files_span g.F.Files mid new) c.over_tensors.result)
     c.in-Ok.ensures.is_chosen c.over_tensors.ensures.comes in
-    comes_next (setup_part chosen_graph options)
-    (λ setup. followed (each_part tensor_part p.tensors) (wanted_part c.args.wanted p chosen_graph setup))
+    comes_next (setup_part chosen_graph options) (sent_part p chosen_graph)
     (files_span g.F.Files old new) (files_span g.F.Files mid new) (rest_of g.F.Files old mid new c.in-Ok-run_setup.ensures.keeps)
     setup c.over_tensors.result made over
