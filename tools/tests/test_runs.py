@@ -19,9 +19,13 @@ from sam_calls import Refused, graph_of, lines_of, streams_of  # noqa: E402
 
 
 def examples():
-    """The program of each example that has its tensor files."""
+    """The program of each example that has its tensor files and one statement, so one graph."""
     paths = (os.path.join(EXAMPLES, name, "p.sam") for name in sorted(os.listdir(EXAMPLES)))
-    return [path for path in paths if os.path.exists(path) and tensor_files(path)]
+    return [path for path in paths if os.path.exists(path) and tensor_files(path) and statements(path) == 1]
+
+
+def statements(program):
+    return sum(row[0] == "result" for row in lines_of(program))
 
 
 def tensor_files(program):
@@ -138,6 +142,11 @@ class Runs(unittest.TestCase):
             self.assertEqual((len(row), row[2]), (9, "plain"), row)
         with open(plot, encoding="utf-8") as file:
             self.assertEqual(file.read().count("<rect"), 6)
+
+    def test_several_statements_have_no_one_graph(self):
+        for name in ("study", "draw"):
+            done = tool(name, os.path.join(EXAMPLES, "triangles", "p.sam"))
+            self.assertEqual(done.stderr, f"{name}: sam: program line 6: ManyStatements\n")
 
     def test_study_of_both_lowerings(self):
         done = tool("study", os.path.join(EXAMPLES, "fused-sum", "p.sam"))
