@@ -35,6 +35,8 @@ tensor b 4 c 1 f|result s|compute s = b(i)|loops i|result x 4 c 1|compute x(i) =
 tensor b 4 c 1 f|result y 4 c 1|compute y(i) = b(i)|loops i|result x 4 c 1|compute x(i) = y(i,i)|loops i>6: ArityMismatch y
 tensor b 4 c 1 f|result y 4 c 1|compute y(i) = b(i)|loops i|result x 5 c 1|compute x(i) = y(i)|loops i>6: DimMismatch i
 tensor b 4 c 1 f|result y 4 c 1|compute y(i) = b(i)|loops i|result x 4 c 1|compute x(i) = y(i)|loops j>7: LoopsMismatch
+tensor b 4 c 1 f|result s|compute s = b(i)|loops j|result x 4 c 1|compute x(i) = s * b(i)|loops i>4: LoopsMismatch
+tensor b 4 c 1 f|result s|compute s = b(i)|loops i|result t|compute t = t|loops>6: ResultOnRight t
 ";
 
 /// Whether a text is accepted or refused as it is told.
@@ -59,7 +61,7 @@ fn is_right(alloc: Global, number: usize) -> Result<bool, Fail> {
 
 #[test]
 fn chains_are_read(rt: HostRuntime) -> Result<(), Fail> {
-    for number in 0..28 {
+    for number in 0..30 {
         assert!(rt; is_right(rt.alloc(), number)?, "case {number}");
     }
     Ok(())
