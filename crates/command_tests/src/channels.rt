@@ -178,21 +178,7 @@ $ moment p.sam --schedule s.txt --capacity 1
 > 13: 0
 > 14:
 $ moment p.sam --schedule s.txt --of 0=1
-> 0: 0
-> 1:
-> 2:
-> 3:
-> 4:
-> 5:
-> 6:
-> 7:
-> 8:
-> 9:
-> 10:
-> 11:
-> 12:
-> 13: 0
-> 14:
+same
 ";
 
 #[test]

@@ -19,107 +19,73 @@ $
 ! sam: usage: sam COMMAND SUBJECT [GRAPH] [--capacity N] [--of C=N,..] [--schedule FILE] [--fused]
 = 2
 $ step
-! sam: usage: sam COMMAND SUBJECT [GRAPH] [--capacity N] [--of C=N,..] [--schedule FILE] [--fused]
-= 2
+same
 $ walk p.sam
-! sam: usage: sam COMMAND SUBJECT [GRAPH] [--capacity N] [--of C=N,..] [--schedule FILE] [--fused]
-= 2
+same
 $ run p.sam --of 0=1
-! sam: usage: sam COMMAND SUBJECT [GRAPH] [--capacity N] [--of C=N,..] [--schedule FILE] [--fused]
-= 2
+same
 $ run p.sam --schedule s.txt
-! sam: usage: sam COMMAND SUBJECT [GRAPH] [--capacity N] [--of C=N,..] [--schedule FILE] [--fused]
-= 2
+same
 $ run p.sam --capacity 0
-! sam: usage: sam COMMAND SUBJECT [GRAPH] [--capacity N] [--of C=N,..] [--schedule FILE] [--fused]
-= 2
+same
 $ p.sam step
-! sam: usage: sam COMMAND SUBJECT [GRAPH] [--capacity N] [--of C=N,..] [--schedule FILE] [--fused]
-= 2
+same
 $ step p.sam p.sam
-! sam: usage: sam COMMAND SUBJECT [GRAPH] [--capacity N] [--of C=N,..] [--schedule FILE] [--fused]
-= 2
+same
 $ check p.sam --capacity 4
-! sam: usage: sam COMMAND SUBJECT [GRAPH] [--capacity N] [--of C=N,..] [--schedule FILE] [--fused]
-= 2
+same
 $ lower p.sam --of 0=1
-! sam: usage: sam COMMAND SUBJECT [GRAPH] [--capacity N] [--of C=N,..] [--schedule FILE] [--fused]
-= 2
+same
 $ streams p.sam --schedule s.txt
-! sam: usage: sam COMMAND SUBJECT [GRAPH] [--capacity N] [--of C=N,..] [--schedule FILE] [--fused]
-= 2
+same
 $ large 1 --capacity 1
-! sam: usage: sam COMMAND SUBJECT [GRAPH] [--capacity N] [--of C=N,..] [--schedule FILE] [--fused]
-= 2
+same
 $ step p.sam --capacity 0
-! sam: usage: sam COMMAND SUBJECT [GRAPH] [--capacity N] [--of C=N,..] [--schedule FILE] [--fused]
-= 2
+same
 $ step p.sam --capacity 1048577
-! sam: usage: sam COMMAND SUBJECT [GRAPH] [--capacity N] [--of C=N,..] [--schedule FILE] [--fused]
-= 2
+same
 $ step p.sam --capacity x
-! sam: usage: sam COMMAND SUBJECT [GRAPH] [--capacity N] [--of C=N,..] [--schedule FILE] [--fused]
-= 2
+same
 $ step p.sam --capacity
-! sam: usage: sam COMMAND SUBJECT [GRAPH] [--capacity N] [--of C=N,..] [--schedule FILE] [--fused]
-= 2
+same
 $ step p.sam --capacity 1 --capacity 1
-! sam: usage: sam COMMAND SUBJECT [GRAPH] [--capacity N] [--of C=N,..] [--schedule FILE] [--fused]
-= 2
+same
 $ step p.sam --of 7=1,7=2
-! sam: usage: sam COMMAND SUBJECT [GRAPH] [--capacity N] [--of C=N,..] [--schedule FILE] [--fused]
-= 2
+same
 $ step p.sam --of 7=1,07=2
-! sam: usage: sam COMMAND SUBJECT [GRAPH] [--capacity N] [--of C=N,..] [--schedule FILE] [--fused]
-= 2
+same
 $ step p.sam --of 7
-! sam: usage: sam COMMAND SUBJECT [GRAPH] [--capacity N] [--of C=N,..] [--schedule FILE] [--fused]
-= 2
+same
 $ step p.sam --of 7=0
-! sam: usage: sam COMMAND SUBJECT [GRAPH] [--capacity N] [--of C=N,..] [--schedule FILE] [--fused]
-= 2
+same
 $ step p.sam --of 7=1,
-! sam: usage: sam COMMAND SUBJECT [GRAPH] [--capacity N] [--of C=N,..] [--schedule FILE] [--fused]
-= 2
+same
 $ step p.sam --of 4294967296=1
-! sam: usage: sam COMMAND SUBJECT [GRAPH] [--capacity N] [--of C=N,..] [--schedule FILE] [--fused]
-= 2
+same
 $ step p.sam --of=
-! sam: usage: sam COMMAND SUBJECT [GRAPH] [--capacity N] [--of C=N,..] [--schedule FILE] [--fused]
-= 2
+same
 $ large 0
-! sam: usage: sam COMMAND SUBJECT [GRAPH] [--capacity N] [--of C=N,..] [--schedule FILE] [--fused]
-= 2
+same
 $ large 262145
-! sam: usage: sam COMMAND SUBJECT [GRAPH] [--capacity N] [--of C=N,..] [--schedule FILE] [--fused]
-= 2
+same
 $ large x
-! sam: usage: sam COMMAND SUBJECT [GRAPH] [--capacity N] [--of C=N,..] [--schedule FILE] [--fused]
-= 2
+same
 $ check p.sam --fused
-! sam: usage: sam COMMAND SUBJECT [GRAPH] [--capacity N] [--of C=N,..] [--schedule FILE] [--fused]
-= 2
+same
 $ large 3 --fused
-! sam: usage: sam COMMAND SUBJECT [GRAPH] [--capacity N] [--of C=N,..] [--schedule FILE] [--fused]
-= 2
+same
 $ step p.sam --fused --fused
-! sam: usage: sam COMMAND SUBJECT [GRAPH] [--capacity N] [--of C=N,..] [--schedule FILE] [--fused]
-= 2
+same
 $ step p.sam --fused=true
-! sam: usage: sam COMMAND SUBJECT [GRAPH] [--capacity N] [--of C=N,..] [--schedule FILE] [--fused]
-= 2
+same
 $ lower p.sam --fused --capacity 1
-! sam: usage: sam COMMAND SUBJECT [GRAPH] [--capacity N] [--of C=N,..] [--schedule FILE] [--fused]
-= 2
+same
 $ size p.sam --fused --of 0=1
-! sam: usage: sam COMMAND SUBJECT [GRAPH] [--capacity N] [--of C=N,..] [--schedule FILE] [--fused]
-= 2
+same
 $ step p.sam -c
-! sam: usage: sam COMMAND SUBJECT [GRAPH] [--capacity N] [--of C=N,..] [--schedule FILE] [--fused]
-= 2
+same
 $ step --help
-! sam: usage: sam COMMAND SUBJECT [GRAPH] [--capacity N] [--of C=N,..] [--schedule FILE] [--fused]
-= 2
+same
 # either form of a value, anywhere; what begins with a dash is a word behind two dashes
 $ --capacity=1048576 step --of=0=2,1=2 p.sam
 > 3 35

@@ -42,8 +42,7 @@ $ step p.sam
 | compute x(i) = (B(i,j) + d(i))
 | loops i j
 $ step p.sam
-> 1 10
-> 2 15
+same
 # each top-level term is summed by itself
 --- p.sam
 | tensor B 2x3 cc 1,2 B.tns

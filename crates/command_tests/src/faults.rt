@@ -28,36 +28,30 @@ $ step p.sam
 = 6
 fails file 2
 $ step p.sam
-! sam: read fault p.sam
-= 6
+same
 fails file 3
 $ step p.sam
-! sam: read fault p.sam
-= 6
+same
 fails file 4
 $ step p.sam
 ! sam: read fault b.tns
 = 6
 fails file 5
 $ step p.sam
-! sam: read fault b.tns
-= 6
+same
 fails file 6
 $ step p.sam
-! sam: read fault b.tns
-= 6
+same
 fails file 7
 $ step p.sam
 ! sam: read fault c.tns
 = 6
 fails file 8
 $ step p.sam
-! sam: read fault c.tns
-= 6
+same
 fails file 9
 $ step p.sam
-! sam: read fault c.tns
-= 6
+same
 fails file 10
 $ step p.sam
 > 3 35
@@ -159,8 +153,7 @@ $ check p.sam
 | result x 4 c 1
 | compute x(i) = b(i) * c(i)
 $ check p.sam
-! sam: program line 5: BadLine
-= 3
+same
 # 88 bytes
 --- p.sam
 | tensor b 4 c 1 b.tns
@@ -170,8 +163,7 @@ $ check p.sam
 | loop
 |~
 $ check p.sam
-! sam: program line 5: BadLine
-= 3
+same
 # 89 bytes
 --- p.sam
 | tensor b 4 c 1 b.tns
@@ -192,8 +184,7 @@ $ check p.sam
 | loops 
 |~
 $ check p.sam
-! sam: program line 5: LoopsMismatch
-= 3
+same
 # 91 bytes
 --- p.sam
 | tensor b 4 c 1 b.tns

@@ -37,17 +37,11 @@ $ step p.sam --fused
 > 3 -2
 > 4 -1
 $ step p.sam
-> 1 2
-> 3 -2
-> 4 -1
+same
 $ run p.sam --fused
-> 1 2
-> 3 -2
-> 4 -1
+same
 $ run p.sam --fused --capacity 1
-> 1 2
-> 3 -2
-> 4 -1
+same
 $ size p.sam --fused
 > capacity 1
 # what is sent when a schedule ends: the root's two tokens, and what the cast has passed on
@@ -138,8 +132,7 @@ $ step p.sam --fused
 > 2 -14
 > 3 4
 $ run p.sam --fused
-> 2 -14
-> 3 4
+same
 # a sum of two matrices with long empty runs, which stalls with one token of room where terms are joined
 --- p.sam
 | tensor B 3x2 dc 1,2 B.tns

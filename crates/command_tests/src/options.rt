@@ -17,10 +17,11 @@ const STALLS: &str = r"# a sum of two matrices with long empty runs: 24 blocks, 
 $ step p.sam
 > 1 2 7
 > 3 1 4
-# ample room
+# ample room, or just enough on the channel that needs it
 $ step p.sam --capacity 1048576
-> 1 2 7
-> 3 1 4
+same
+$ step p.sam --of 7=2
+same
 # one token on each channel
 $ step p.sam --capacity 1
 ! sam: stalled: block 1 full channel 1
@@ -61,42 +62,15 @@ $ step p.sam --of 7=1
 ! sam: stalled: block 20 empty channel 31
 ! sam: stalled: block 22 empty channel 8
 = 8
-$ step p.sam --of 7=2
-> 1 2 7
-> 3 1 4
 # a channel's own capacity counts before that of all
 $ step p.sam --capacity 1048576 --of 7=1
-! sam: stalled: block 4 full channel 7
-! sam: stalled: block 5 empty channel 6
-! sam: stalled: block 11 empty channel 34
-! sam: stalled: block 13 empty channel 35
-! sam: stalled: block 14 empty channel 22
-! sam: stalled: block 15 empty channel 23
-! sam: stalled: block 16 empty channel 24
-! sam: stalled: block 17 empty channel 29
-! sam: stalled: block 18 empty channel 21
-! sam: stalled: block 19 empty channel 28
-! sam: stalled: block 20 empty channel 31
-! sam: stalled: block 22 empty channel 8
-= 8
+same
 # the list is that of the state reached, whatever was played first
 --- s.txt
 | 0
 | 0
 $ step p.sam --of 7=1 --schedule s.txt
-! sam: stalled: block 4 full channel 7
-! sam: stalled: block 5 empty channel 6
-! sam: stalled: block 11 empty channel 34
-! sam: stalled: block 13 empty channel 35
-! sam: stalled: block 14 empty channel 22
-! sam: stalled: block 15 empty channel 23
-! sam: stalled: block 16 empty channel 24
-! sam: stalled: block 17 empty channel 29
-! sam: stalled: block 18 empty channel 21
-! sam: stalled: block 19 empty channel 28
-! sam: stalled: block 20 empty channel 31
-! sam: stalled: block 22 empty channel 8
-= 8
+same
 --- s.txt
 | 23
 | 22
@@ -123,19 +97,7 @@ $ step p.sam --of 7=1 --schedule s.txt
 | 1
 | 0
 $ step p.sam --of 7=1 --schedule s.txt
-! sam: stalled: block 4 full channel 7
-! sam: stalled: block 5 empty channel 6
-! sam: stalled: block 11 empty channel 34
-! sam: stalled: block 13 empty channel 35
-! sam: stalled: block 14 empty channel 22
-! sam: stalled: block 15 empty channel 23
-! sam: stalled: block 16 empty channel 24
-! sam: stalled: block 17 empty channel 29
-! sam: stalled: block 18 empty channel 21
-! sam: stalled: block 19 empty channel 28
-! sam: stalled: block 20 empty channel 31
-! sam: stalled: block 22 empty channel 8
-= 8
+same
 $ step p.sam --of 7=2 --schedule s.txt
 > 1 2 7
 > 3 1 4
@@ -204,8 +166,7 @@ $ moment p.sam --schedule s.txt
 --- s.txt
 | 18446744073709551616
 $ moment p.sam --schedule s.txt
-! sam: schedule line 1
-= 3
+same
 # an empty schedule
 --- s.txt
 $ step p.sam --schedule s.txt

@@ -192,8 +192,7 @@ $ step p.sam
 --- b.tns
 | 0 1
 $ step p.sam
-! sam: b.tns line 1: CoordinateRange
-= 4
+same
 --- b.tns
 | 1
 $ step p.sam

@@ -68,10 +68,7 @@ $ run p.sam
 | compute X(i,j) = B(i,k) * C(k,j)
 | loops i k j
 $ run p.sam
-> 1 1 28
-> 1 2 21
-> 2 1 24
-> 2 2 28
+same
 --- p.sam
 | tensor B 2x2 cc 2,1 B.tns
 | tensor C 2x2 cc 1,2 C.tns
@@ -79,10 +76,7 @@ $ run p.sam
 | compute X(i,j) = B(i,k) * C(k,j)
 | loops k i j
 $ run p.sam
-> 1 1 28
-> 1 2 21
-> 2 1 24
-> 2 2 28
+same
 # three factors
 --- p.sam
 | tensor B 2x2x2 ccc 1,2,3 B.tns

@@ -7,6 +7,7 @@
 //! - `$ WORD WORD ..` is a command over the files so far;
 //! - behind a command stands what it answers: `> TEXT` a line on its output, `>~` where the last one has no newline, `! TEXT`
 //!   a line on its errors, and `= STATUS` where the status isn't 0. A line of many objects has one a line, `>+ TEXT`.
+//!   `same` stands there where it answers what the command before it did.
 //!
 //! Replayed, a transcript is written anew with the answers that are given. It holds where that is the same text.
 
@@ -88,13 +89,9 @@ impl Stage {
         Ok(MemFiles::new(files, 100, calls))
     }
 
-    /// Runs a command, and writes what it answers.
-    fn run<R: Threads + Wait + Sync>(
-        &mut self,
-        rt: &R,
-        command: &str,
-        told: &mut String,
-    ) -> Result<(), Fail> {
+    /// Runs a command, and gives what it answers.
+    fn run<R: Threads + Wait + Sync>(&mut self, rt: &R, command: &str) -> Result<String, Fail> {
+        let mut told = String::new(self.alloc);
         let mut words = Vec::new(self.alloc);
         for word in command.split_terminator(' ') {
             words.push(String::from_str(self.alloc, word)?)?;
@@ -109,8 +106,8 @@ impl Stage {
         self.output_fails = 0;
         match (str::from_utf8(out.bytes()), str::from_utf8(err.bytes())) {
             (Ok(out), Ok(err)) => {
-                push_lines(self.alloc, told, ">", out)?;
-                push_lines(self.alloc, told, "!", err)?;
+                push_lines(self.alloc, &mut told, ">", out)?;
+                push_lines(self.alloc, &mut told, "!", err)?;
             }
             _ => return Err(Fail::from("what was written is no text")),
         }
@@ -118,7 +115,7 @@ impl Stage {
             told.push_str("= ")?;
             told.push_str(&format!(in self.alloc; "{status}\n")?)?;
         }
-        Ok(())
+        Ok(told)
     }
 
     /// A line of the file that was begun last.
@@ -183,19 +180,34 @@ pub fn replayed<R: Threads + Wait + Sync>(
 ) -> Result<String, Fail> {
     let mut told = String::new(alloc);
     let mut stage = Stage::new(alloc);
+    let mut before = String::new(alloc);
+    let mut last = String::new(alloc);
+    let mut is_told = true;
     for line in transcript.split_terminator('\n') {
         if is_answer(line) {
             continue;
+        }
+        if line == "same" && last.as_str() == before.as_str() {
+            is_told = true;
+        }
+        if !is_told {
+            told.push_str(last.as_str())?;
+            is_told = true;
         }
         told.push_str(line)?;
         told.push('\n')?;
         match line.strip_prefix('$') {
             Some(command) => {
-                let words = command.strip_prefix(' ').unwrap_or("");
-                stage.run(rt, words, &mut told)?;
+                let answer = stage.run(rt, command.strip_prefix(' ').unwrap_or(""))?;
+                before = last;
+                last = answer;
+                is_told = false;
             }
             None => stage.set_up(line)?,
         }
+    }
+    if !is_told {
+        told.push_str(last.as_str())?;
     }
     Ok(told)
 }
