@@ -553,6 +553,18 @@ $ step p.sam
 = 4
 $ run p.sam --capacity 100
 same
+# one place less
+--- p.sam
+| tensor b 16777216 c 1 b.tns
+| tensor c 1 c 1 c.tns
+| result Y 16777216x1 dc 1,2
+| compute Y(i,j) = b(i) * c(j)
+| loops i j
+| result s
+| compute s = b(i)
+| loops i
+$ step p.sam
+> 3
 # the last result isn't stored
 --- p.sam
 | tensor b 16777217 c 1 b.tns
