@@ -536,7 +536,7 @@ same
 | loops i
 $ step p.sam
 same
-# above a compressed level such places list nothing, but can't be stored, whether the result is read or not
+# above a compressed level such places list nothing, but can't be stored, also where no statement reads the result
 --- p.sam
 | tensor b 16777217 c 1 b.tns
 | tensor c 1 c 1 c.tns
